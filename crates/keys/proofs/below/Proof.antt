@@ -1,0 +1,25 @@
+use Rattle.keys.specs.Keys.{below}
+use mathlib.Core.Path.{sym}
+use lib.Pow.{pow-pos, pow-mono}
+use native.Mathlib.Omega.{arith}
+use native.Mathlib.Nat.{mod-eq-of-lt, lt-of-lt-of-le}
+use borrow.Author.Needs.{needs}
+use Rattle.keys.proofs.below.Statement.{statement}
+use Rattle.keys.proofs.below.Tie as tie
+
+place-requires : tie.Need-place-requires
+place-requires c κs = search needs
+
+rem-result : tie.Need-rem-result
+rem-result c = omega (arith, c .place .ensures, pow-pos (c .before .before .args .k))
+
+returns : tie.Need-returns
+unfolding below
+returns c = rw (c .place .ensures)
+
+returns-2 : tie.Need-returns-2
+unfolding below
+returns-2 c = sym (mod-eq-of-lt (lt-of-lt-of-le (search needs) (pow-mono (c .if1 .left))))
+
+pub below-spec : {M : Type 1} → statement M
+below-spec = tie.close (tie.spec place-requires rem-result returns returns-2)

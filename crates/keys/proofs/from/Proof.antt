@@ -1,0 +1,22 @@
+use Rattle.keys.specs.Keys.{from, below}
+use native.Mathlib.Omega.{arith}
+use native.Mathlib.Nat.{mod-le}
+use lib.Pow.{pow-pos}
+use Prim.Native.Nat.{_^_}
+use borrow.Author.Needs.{needs}
+use Rattle.keys.proofs.from.Statement.{statement}
+use Rattle.keys.proofs.from.Tie as tie
+
+below-requires : tie.Need-below-requires
+below-requires c κs = search needs
+
+sub-result : tie.Need-sub-result
+unfolding below
+sub-result c = omega (arith, c .below .ensures, mod-le (c .before .args .m) (2 ^ (c .before .args .k)))
+
+returns : tie.Need-returns
+unfolding from below
+returns c = rw (c .below .ensures)
+
+pub from-spec : {M : Type 1} → statement M
+from-spec = tie.close (tie.spec below-requires sub-result returns)

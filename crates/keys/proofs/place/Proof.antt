@@ -1,0 +1,15 @@
+use native.Mathlib.Nat.{mod-eq-of-lt}
+use lib.Pow.{pow-lt}
+use native.Mathlib.Omega.{arith}
+use borrow.Author.Needs.{needs}
+use Rattle.keys.proofs.place.Statement.{statement}
+use Rattle.keys.proofs.place.Tie as tie
+
+shl-result : tie.Need-shl-result
+shl-result c = search needs
+
+returns : tie.Need-returns
+returns c = omega (arith, pow-lt (c .pre), mod-eq-of-lt (pow-lt (c .pre)))
+
+pub place-spec : {M : Type 1} → statement M
+place-spec = tie.close (tie.spec shl-result returns)

@@ -1,0 +1,47 @@
+-- Document 01's number and values for each case of the answers: the refusal number (0 where nothing is refused), then the values in the order in
+-- which the sheet has them.
+use mathlib.Core.List.{List, [], _∷_}
+use Prim.Native.Nat.{ℕ}
+use Rattle.machine.specs.declared.answer.FreshReply as FreshReply
+use Rattle.machine.specs.declared.answer.BeginReply as BeginReply
+use Rattle.machine.specs.declared.answer.StepReply as StepReply
+use Rattle.machine.specs.declared.answer.RunReply as RunReply
+use Rattle.machine.specs.declared.answer.ListReply as ListReply
+
+abbrev pub freshNumber : FreshReply.FreshReply → ℕ
+freshNumber FreshReply.the-variants.Made = 0
+freshNumber (FreshReply.the-variants.Refused n) = n
+
+abbrev pub beginNumber : BeginReply.BeginReply → ℕ
+beginNumber BeginReply.the-variants.Begun = 0
+beginNumber (BeginReply.the-variants.Refused n) = n
+
+abbrev pub stepNumber : StepReply.StepReply → ℕ
+stepNumber (StepReply.the-variants.Goes p) = 0
+stepNumber (StepReply.the-variants.Ends a c) = 0
+stepNumber (StepReply.the-variants.Refused n) = n
+
+-- the phase gone to; on ending phase 0, the answer and the commit number
+abbrev pub stepValues : StepReply.StepReply → List ℕ
+stepValues (StepReply.the-variants.Goes p) = p ∷ []
+stepValues (StepReply.the-variants.Ends a c) = 0 ∷ a ∷ c ∷ []
+stepValues (StepReply.the-variants.Refused n) = []
+
+abbrev pub runNumber : RunReply.RunReply → ℕ
+runNumber (RunReply.the-variants.Stops n p) = 0
+runNumber (RunReply.the-variants.Ends n a c) = 0
+runNumber (RunReply.the-variants.Refused n) = n
+
+-- "taken phase, or on ending .. taken answer commit"
+abbrev pub runValues : RunReply.RunReply → List ℕ
+runValues (RunReply.the-variants.Stops n p) = n ∷ p ∷ []
+runValues (RunReply.the-variants.Ends n a c) = n ∷ a ∷ c ∷ []
+runValues (RunReply.the-variants.Refused n) = []
+
+abbrev pub listNumber : ListReply.ListReply → ℕ
+listNumber (ListReply.the-variants.Keys ks) = 0
+listNumber (ListReply.the-variants.Refused n) = n
+
+abbrev pub listValues : ListReply.ListReply → List ℕ
+listValues (ListReply.the-variants.Keys ks) = ks ∷ []
+listValues (ListReply.the-variants.Refused n) = []

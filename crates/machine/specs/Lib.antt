@@ -1,0 +1,9 @@
+pub mod State
+pub mod Registers
+pub mod Places
+pub mod Rows
+pub mod Range
+pub mod Step
+pub mod List
+pub mod Follow
+pub mod Answers

@@ -1,0 +1,103 @@
+-- What rows ask of a place, and what they do to one.
+use mathlib.Core.Bool.{Bool, true, false, cond, not, _&&_}
+use Prim.Native.Nat.{ℕ, _+_, _-_, min}
+use lib.Dec.{ltb, eqb}
+use Rattle.keys.specs.Keys.{has, with, without}
+use Rattle.machine.specs.State.{none, nobody, zeroStatistics, topStatistics}
+use Rattle.machine.specs.declared.state.Settings.{Settings}
+use Rattle.machine.specs.declared.state.Lock.{Lock}
+use Rattle.machine.specs.declared.state.Body.{Body}
+use Rattle.machine.specs.declared.state.Body.the-variants.{Base, Route}
+use Rattle.machine.specs.declared.state.Place.{Place}
+
+abbrev pub isRouteBody : Body → Bool
+isRouteBody (Base ks) = false
+isRouteBody (Route k l r) = true
+
+abbrev pub isRoute : Place → Bool
+isRoute p = isRouteBody (p .body)
+
+abbrev pub isBase : Place → Bool
+isBase p = not (isRouteBody (p .body))
+
+-- the keys of a base
+abbrev pub keysOfBody : Body → ℕ
+keysOfBody (Base ks) = ks
+keysOfBody (Route k l r) = 0
+
+abbrev pub keysOf : Place → ℕ
+keysOf p = keysOfBody (p .body)
+
+-- the key, the left and the right child of a route
+abbrev pub routeKeyOfBody : Body → ℕ
+routeKeyOfBody (Base ks) = 0
+routeKeyOfBody (Route k l r) = k
+
+abbrev pub routeKey : Place → ℕ
+routeKey p = routeKeyOfBody (p .body)
+
+abbrev pub childOnBody : Bool → Body → ℕ
+childOnBody w (Base ks) = none
+childOnBody w (Route k l r) = cond w r l
+
+-- the child of a route on a side: true is right
+abbrev pub childOn : Bool → Place → ℕ
+childOn w p = childOnBody w (p .body)
+
+-- "Child by key k is left if k < route key, else right"
+abbrev pub childBy : ℕ → Place → ℕ
+childBy k p = childOn (not (ltb k (routeKey p))) p
+
+abbrev pub swapBody : ℕ → ℕ → Body → Body
+swapBody x new (Base ks) = Base ks
+swapBody x new (Route k l r) = cond (eqb l x) (Route k new r) (Route k l new)
+
+-- "Takes X's place under Y": Y's left if that is X, else its right
+unfoldable pub takesPlace : ℕ → ℕ → Place → Place
+takesPlace x new y = record { lock = y .lock; valid = y .valid; body = swapBody x new (y .body) }
+
+abbrev pub isFree : Place → Bool
+isFree p = eqb (p .lock .holder) nobody
+
+abbrev pub withLock : Lock → Place → Place
+withLock l p = record { lock = l; valid = p .valid; body = p .body }
+
+-- a lock taken with no change of statistics: a try on a neighbour, and route locks
+abbrev pub tried : ℕ → Lock → Lock
+tried me l = record { holder = me; statistics = l .statistics }
+
+-- "Taking at phase 3 subtracts succ from the base's statistics", down to the lower stop
+abbrev pub taken3 : ℕ → Settings → Lock → Lock
+taken3 me c l = record { holder = me; statistics = l .statistics - c .succ }
+
+-- "taking at phase 4 adds fail", up to the upper stop
+abbrev pub taken4 : ℕ → Settings → Lock → Lock
+taken4 me c l = record { holder = me; statistics = min topStatistics (l .statistics + c .fail) }
+
+-- "Releasing sets the holder to none"
+abbrev pub released : Lock → Lock
+released l = record { holder = nobody; statistics = l .statistics }
+
+-- "statistics 0"
+abbrev pub zeroed : Lock → Lock
+zeroed l = record { holder = l .holder; statistics = zeroStatistics }
+
+unfoldable pub release : Place → Place
+release p = withLock (released (p .lock)) p
+
+unfoldable pub zero : Place → Place
+zero p = withLock (zeroed (p .lock)) p
+
+unfoldable pub invalid : Place → Place
+invalid p = record { lock = p .lock; valid = false; body = p .body }
+
+unfoldable pub withKeys : ℕ → Place → Place
+withKeys ks p = record { lock = p .lock; valid = p .valid; body = Base ks }
+
+-- "Insert answers 1 if the key was absent ..; delete answers 1 if it was present ..; lookup answers 1 if present; otherwise 0"
+abbrev pub answerOf : ℕ → Bool → ℕ
+answerOf o present = cond (eqb o 0) (cond present 0 1) (cond present 1 0)
+
+-- "Insert .. adds it; delete .. takes it out"
+abbrev pub keysAfter : ℕ → ℕ → ℕ → ℕ
+keysAfter o ks k = cond (eqb o 0) (with ks k) (cond (eqb o 1) (without ks k) ks)

@@ -1,0 +1,71 @@
+-- "Schedule and key sheet": the forms of the schedule's lines.
+use mathlib.Core.Bool.{Bool, true, false, cond, not, _&&_}
+use mathlib.Core.List.{List, [], _∷_}
+use Prim.Native.Nat.{ℕ}
+use lib.Dec.{eqb}
+use lib.ListN.{length, getD, drop}
+use Rattle.machine.specs.Range.{settingsInRange}
+use Rattle.machine.specs.declared.state.Settings.{Settings}
+use Rattle.sheet.specs.Text.{minus, fields, isNumber, value}
+use Rattle.sheet.specs.declared.form.First as First
+use Rattle.sheet.specs.declared.form.Line as Line
+
+-- field i of some fields
+abbrev pub field : List (List ℕ) → ℕ → List ℕ
+field fs i = getD fs i []
+
+-- a field that is one letter
+unfoldable pub isLetter : ℕ → List ℕ → Bool
+isLetter b f = eqb (length f) 1 && eqb (getD f 0 0) b
+
+-- "min may have a minus before a number that isn't 0": the number behind the minus
+unfoldable pub isBelow : List ℕ → Bool
+isBelow f = eqb (getD f 0 0) minus && isNumber (drop 1 f) && not (eqb (value (drop 1 f)) 0)
+
+-- min is a number, which is in range only if it is 0, or lies below 0
+unfoldable pub isMin : List ℕ → Bool
+isMin f = cond (isBelow f) true (isNumber f && eqb (value f) 0)
+
+-- how far min lies below 0
+unfoldable pub lowOf : List ℕ → ℕ
+lowOf f = cond (isBelow f) (value (drop 1 f)) 0
+
+-- `R succ fail min max`
+unfoldable pub isFirst : List (List ℕ) → Bool
+isFirst fs =
+    eqb (length fs) 5 && isLetter 82 (field fs 0) && isNumber (field fs 1) && isNumber (field fs 2) && isMin (field fs 3)
+    && isNumber (field fs 4)
+
+unfoldable pub settingsOf : List (List ℕ) → Settings
+settingsOf fs =
+    record { succ = value (field fs 1); fail = value (field fs 2); low = lowOf (field fs 3); max = value (field fs 4) }
+
+-- a settings line in range, or a slip
+unfoldable pub firstForm : List ℕ → First.First
+firstForm l =
+    cond (isFirst (fields l) && settingsInRange (settingsOf (fields l))) (First.the-variants.Settings (settingsOf (fields l)))
+    First.the-variants.Slip
+
+-- "op `I`, `D` or `L`"
+unfoldable pub isOperation : List ℕ → Bool
+isOperation f = cond (isLetter 73 f) true (cond (isLetter 68 f) true (isLetter 76 f))
+
+-- "insert, delete, lookup, numbered 0, 1, 2"
+unfoldable pub operationOf : List ℕ → ℕ
+operationOf f = cond (isLetter 73 f) 0 (cond (isLetter 68 f) 1 2)
+
+-- `B thread op key`
+unfoldable pub isBegin : List (List ℕ) → Bool
+isBegin fs =
+    eqb (length fs) 4 && isLetter 66 (field fs 0) && isNumber (field fs 1) && isOperation (field fs 2) && isNumber (field fs 3)
+
+-- `S thread n`
+unfoldable pub isSteps : List (List ℕ) → Bool
+isSteps fs = eqb (length fs) 3 && isLetter 83 (field fs 0) && isNumber (field fs 1) && isNumber (field fs 2)
+
+-- what a line other than the first says: "Nothing else is allowed"
+unfoldable pub lineForm : List ℕ → Line.Line
+lineForm l =
+    cond (isBegin (fields l))
+    (Line.the-variants.Begin (value (field (fields l) 1)) (operationOf (field (fields l) 2)) (value (field (fields l) 3)))
+    (cond (isSteps (fields l)) (Line.the-variants.Steps (value (field (fields l) 1)) (value (field (fields l) 2))) Line.the-variants.Slip)

@@ -1,0 +1,4 @@
+pub mod Text
+pub mod Form
+pub mod Sheet
+pub mod Examples

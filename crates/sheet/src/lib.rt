@@ -1,0 +1,2 @@
+// Schedule lines in, sheet lines out.
+pub mod form;
