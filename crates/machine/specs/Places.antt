@@ -53,7 +53,7 @@ swapBody x new (Base ks) = Base ks
 swapBody x new (Route k l r) = cond (eqb l x) (Route k new r) (Route k l new)
 
 -- "Takes X's place under Y": Y's left if that is X, else its right
-unfoldable pub takesPlace : ℕ → ℕ → Place → Place
+abbrev pub takesPlace : ℕ → ℕ → Place → Place
 takesPlace x new y = record { lock = y .lock; valid = y .valid; body = swapBody x new (y .body) }
 
 abbrev pub isFree : Place → Bool
@@ -82,16 +82,16 @@ released l = record { holder = nobody; statistics = l .statistics }
 abbrev pub zeroed : Lock → Lock
 zeroed l = record { holder = l .holder; statistics = zeroStatistics }
 
-unfoldable pub release : Place → Place
+abbrev pub release : Place → Place
 release p = withLock (released (p .lock)) p
 
-unfoldable pub zero : Place → Place
+abbrev pub zero : Place → Place
 zero p = withLock (zeroed (p .lock)) p
 
-unfoldable pub invalid : Place → Place
+abbrev pub invalid : Place → Place
 invalid p = record { lock = p .lock; valid = false; body = p .body }
 
-unfoldable pub withKeys : ℕ → Place → Place
+abbrev pub withKeys : ℕ → Place → Place
 withKeys ks p = record { lock = p .lock; valid = p .valid; body = Base ks }
 
 -- "Insert answers 1 if the key was absent ..; delete answers 1 if it was present ..; lookup answers 1 if present; otherwise 0"

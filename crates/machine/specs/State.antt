@@ -28,7 +28,7 @@ abbrev pub topStatistics : ℕ
 topStatistics = 4000000
 
 -- the lock of a new node: free, with statistics 0
-unfoldable pub freshLock : Lock
+abbrev pub freshLock : Lock
 freshLock = record { holder = nobody; statistics = zeroStatistics }
 
 -- a place that is not made: invalid, free, empty
@@ -36,7 +36,7 @@ unfoldable pub unmade : Place
 unmade = record { lock = freshLock; valid = false; body = Base 0 }
 
 -- "New nodes are valid and free with statistics 0"
-unfoldable pub newNode : Body → Place
+abbrev pub newNode : Body → Place
 newNode b = record { lock = freshLock; valid = true; body = b }
 
 -- a thread "as fresh": idle, all zero or none
