@@ -1,7 +1,7 @@
 // Sets of the keys 0 to 63 in a u64.
 ghost use mathlib.Core.Path.{_≡_};
 ghost use Prim.Native.Nat.{_<_, _^_};
-ghost use Rattle.keys.specs.Keys.{has, with, without, union, below, from};
+ghost use Rattle.keys.specs.Keys.{has, with, without, union, below, from, size, splitKey};
 
 // Whether k is a key of the set m.
 pub fn has(m: u64, k: u8) -> bool
@@ -58,4 +58,29 @@ pub fn from(m: u64, k: u8) -> u64
     ensures { λ r. ⌜ r ≡ from m k ⌝ }
 {
     m - below(m, k)
+}
+
+// How many keys the set m has.
+pub fn size(m: u64) -> u8
+    ensures { λ r. ⌜ r ≡ size m ⌝ }
+{
+    u64::count_ones(m) as u8
+}
+
+// Of n keys in rising order the one with n / 2 keys before it; 0 for the empty set.
+pub fn split_key(m: u64) -> u8
+    ensures { λ r. ⌜ r ≡ splitKey m ⌝ }
+{
+    let mut skip = size(m) / 2;
+    let mut k: u8 = 0;
+    while k < 64 {
+        if has(m, k) {
+            if skip == 0 {
+                return k;
+            }
+            skip -= 1;
+        }
+        k += 1;
+    }
+    0
 }

@@ -3,7 +3,7 @@ use mathlib.Core.Bool.{Bool}
 use Prim.Native.Nat.{ℕ}
 use Rattle.machine.specs.declared.state.Thread.{Thread}
 
-unfoldable pub atPhase : ℕ → Thread → Thread
+abbrev pub atPhase : ℕ → Thread → Thread
 atPhase x t =
     record {
       phase = x;
@@ -20,7 +20,7 @@ atPhase x t =
       side = t .side;
     }
 
-unfoldable pub setPrev : ℕ → Thread → Thread
+abbrev pub setPrev : ℕ → Thread → Thread
 setPrev x t =
     record {
       phase = t .phase;
@@ -37,7 +37,7 @@ setPrev x t =
       side = t .side;
     }
 
-unfoldable pub setBase : ℕ → Thread → Thread
+abbrev pub setBase : ℕ → Thread → Thread
 setBase x t =
     record {
       phase = t .phase;
@@ -54,7 +54,7 @@ setBase x t =
       side = t .side;
     }
 
-unfoldable pub setWalk : ℕ → Thread → Thread
+abbrev pub setWalk : ℕ → Thread → Thread
 setWalk x t =
     record {
       phase = t .phase;
@@ -71,7 +71,7 @@ setWalk x t =
       side = t .side;
     }
 
-unfoldable pub setNeighbour : ℕ → Thread → Thread
+abbrev pub setNeighbour : ℕ → Thread → Thread
 setNeighbour x t =
     record {
       phase = t .phase;
@@ -88,7 +88,7 @@ setNeighbour x t =
       side = t .side;
     }
 
-unfoldable pub setGrandparent : ℕ → Thread → Thread
+abbrev pub setGrandparent : ℕ → Thread → Thread
 setGrandparent x t =
     record {
       phase = t .phase;
@@ -105,7 +105,7 @@ setGrandparent x t =
       side = t .side;
     }
 
-unfoldable pub setMade : ℕ → Thread → Thread
+abbrev pub setMade : ℕ → Thread → Thread
 setMade x t =
     record {
       phase = t .phase;
@@ -122,7 +122,7 @@ setMade x t =
       side = t .side;
     }
 
-unfoldable pub setSide : Bool → Thread → Thread
+abbrev pub setSide : Bool → Thread → Thread
 setSide x t =
     record {
       phase = t .phase;
@@ -140,7 +140,7 @@ setSide x t =
     }
 
 -- "the thread gets the operation, the key and phase 1"
-unfoldable pub setOperation : ℕ → ℕ → Thread → Thread
+abbrev pub setOperation : ℕ → ℕ → Thread → Thread
 setOperation o k t =
     record {
       phase = 1;
@@ -158,7 +158,7 @@ setOperation o k t =
     }
 
 -- the answer and the commit number
-unfoldable pub setAnswer : ℕ → ℕ → Thread → Thread
+abbrev pub setAnswer : ℕ → ℕ → Thread → Thread
 setAnswer a n t =
     record {
       phase = t .phase;

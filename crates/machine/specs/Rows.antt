@@ -21,11 +21,11 @@ use Rattle.machine.specs.declared.row.Plan.{Plan}
 abbrev pub at : ℕ → Place → Store
 at n p = record { at = n; place = p }
 
-unfoldable pub noStore : Store
+abbrev pub noStore : Store
 noStore = at none zeroPlace
 
 -- three places
-unfoldable pub stores3 : View → Thread → Store → Store → Store → Plan
+abbrev pub stores3 : View → Thread → Store → Store → Store → Plan
 stores3 v t a b c =
     record { thread = t; root = v .root; made = v .made; committed = v .committed; first = a; second = b; third = c }
 

@@ -40,7 +40,7 @@ abbrev pub newNode : Body → Place
 newNode b = record { lock = freshLock; valid = true; body = b }
 
 -- a thread "as fresh": idle, all zero or none
-unfoldable pub freshThread : Thread
+abbrev pub freshThread : Thread
 freshThread =
     record {
       phase = 0;
@@ -71,7 +71,7 @@ fresh c =
     }
 
 -- what an index past the end reads: the record of zeros
-unfoldable pub zeroPlace : Place
+abbrev pub zeroPlace : Place
 zeroPlace = record { lock = record { holder = 0; statistics = 0 }; valid = false; body = Base 0 }
 
 unfoldable pub zeroThread : Thread

@@ -1,7 +1,14 @@
 // The lock-based contention adapting search tree, one step at a time.
 pub mod answer;
+mod commit;
+mod join;
 pub mod list;
 pub mod lock;
+mod neighbour;
 mod place;
+mod plan;
+mod register;
 pub mod row;
+mod search;
+mod split;
 pub mod state;

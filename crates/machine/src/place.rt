@@ -13,7 +13,11 @@ pub(crate) fn is_route(p: Place) -> bool
     let b = p.body;
     match b {
         Body::Base { keys: _ } => false,
-        Body::Route { key: _, left: _, right: _ } => true,
+        Body::Route {
+            key: _,
+            left: _,
+            right: _,
+        } => true,
     }
 }
 
@@ -30,7 +34,11 @@ pub(crate) fn keys_of(p: Place) -> u64
     let b = p.body;
     match b {
         Body::Base { keys } => keys,
-        Body::Route { key: _, left: _, right: _ } => 0,
+        Body::Route {
+            key: _,
+            left: _,
+            right: _,
+        } => 0,
     }
 }
 
@@ -40,7 +48,11 @@ pub(crate) fn route_key(p: Place) -> u8
     let b = p.body;
     match b {
         Body::Base { keys: _ } => 0,
-        Body::Route { key, left: _, right: _ } => key,
+        Body::Route {
+            key,
+            left: _,
+            right: _,
+        } => key,
     }
 }
 
@@ -51,13 +63,11 @@ pub(crate) fn child_on(w: bool, p: Place) -> u8
     let b = p.body;
     match b {
         Body::Base { keys: _ } => 128,
-        Body::Route { key: _, left, right } => {
-            if w {
-                right
-            } else {
-                left
-            }
-        }
+        Body::Route {
+            key: _,
+            left,
+            right,
+        } => { if w { right } else { left } }
     }
 }
 

@@ -1,9 +1,6 @@
-use Rattle.keys.specs.Keys.{from, below}
-use native.Mathlib.Omega.{arith}
 use native.Mathlib.Nat.{mod-le}
-use lib.Pow.{pow-pos}
-use Prim.Native.Nat.{_^_}
 use borrow.Author.Needs.{needs}
+use Rattle.keys.specs.Keys.{from, below}
 use Rattle.keys.proofs.from.Statement.{statement}
 use Rattle.keys.proofs.from.Tie as tie
 
@@ -12,7 +9,7 @@ below-requires c κs = search needs
 
 sub-result : tie.Need-sub-result
 unfolding below
-sub-result c = omega (arith, c .below .ensures, mod-le (c .before .args .m) (2 ^ (c .before .args .k)))
+sub-result c = rw (c .below .ensures) (mod-le _ _)
 
 returns : tie.Need-returns
 unfolding from below

@@ -1,6 +1,6 @@
-use Rattle.keys.specs.Laws.{has-large}
 use mathlib.Core.Path.{sym}
 use borrow.Author.Needs.{needs}
+use Rattle.keys.specs.Laws.{has-large}
 use Rattle.keys.proofs.has.Statement.{statement}
 use Rattle.keys.proofs.has.Tie as tie
 
@@ -11,7 +11,7 @@ returns : tie.Need-returns
 returns c = search needs
 
 returns-2 : tie.Need-returns-2
-returns-2 c = sym (has-large (c .before .args .m) (c .before .args .k) (search needs) (c .if1 .left))
+returns-2 c = sym (has-large _ _ (c .before .fits .m .fits) (c .if1 .left))
 
 pub has-spec : {M : Type 1} → statement M
 has-spec = tie.close (tie.spec shr-result returns returns-2)

@@ -1,7 +1,7 @@
 use native.Mathlib.Nat.{mod-eq-of-lt}
-use lib.Pow.{pow-lt}
 use native.Mathlib.Omega.{arith}
 use borrow.Author.Needs.{needs}
+use lib.Pow.{pow-lt}
 use Rattle.keys.proofs.place.Statement.{statement}
 use Rattle.keys.proofs.place.Tie as tie
 
@@ -9,7 +9,7 @@ shl-result : tie.Need-shl-result
 shl-result c = search needs
 
 returns : tie.Need-returns
-returns c = omega (arith, pow-lt (c .pre), mod-eq-of-lt (pow-lt (c .pre)))
+returns c = omega (arith, mod-eq-of-lt (pow-lt (c .pre)))
 
 pub place-spec : {M : Type 1} → statement M
 place-spec = tie.close (tie.spec shl-result returns)

@@ -1,9 +1,8 @@
-use Rattle.keys.specs.Keys.{with}
-use Rattle.keys.specs.Laws.{with-lt}
-use mathlib.Core.Path.{_≡_, sym, _∙_}
+use mathlib.Core.Path.{sym, _∙_}
 use native.Mathlib.Omega.{arith}
-use borrow.Author.Tests.{lt-ltb, le-ltb}
 use borrow.Author.Needs.{needs}
+use Rattle.keys.specs.Digits.{with-new}
+use Rattle.keys.specs.Laws.{with-old, with-large, with-lt}
 use Rattle.keys.proofs.with.Statement.{statement}
 use Rattle.keys.proofs.with.Tie as tie
 
@@ -11,23 +10,25 @@ has-requires : tie.Need-has-requires
 has-requires c κs = search needs
 
 returns : tie.Need-returns
-unfolding with
-returns c = simp (sym (c .before .has .ensures) ∙ c .if1 .taken)
+returns c = sym (with-old _ _ (sym (c .before .has .ensures) ∙ c .if1 .taken))
 
 place-requires : tie.Need-place-requires
 place-requires c κs = search needs
 
 add-result : tie.Need-add-result
-unfolding with
-add-result c = omega (arith, c .place .ensures, simp (sym (c .before .before .before .has .ensures) ∙ c .before .before .if1 .left, lt-ltb _ _ (c .before .if2 .taken)) at (with-lt _ (c .before .before .before .before .args .k) (c .before .before .before .before .fits .m .fits)))
+add-result c =
+    let new = sym (c .before .before .before .has .ensures) ∙ c .before .before .if1 .left in
+    let start = c .before .before .before .before in
+    let fits = with-lt (start .args .m) (start .args .k) (start .fits .m .fits) in
+    omega (arith, c .place .ensures, with-new _ _ (c .before .if2 .taken) new, fits)
 
 returns-2 : tie.Need-returns-2
-unfolding with
-returns-2 c = simp (sym (c .before .before .before .has .ensures) ∙ c .before .before .if1 .left, lt-ltb _ _ (c .before .if2 .taken), c .place .ensures)
+returns-2 c =
+    let new = sym (c .before .before .before .has .ensures) ∙ c .before .before .if1 .left in
+    rw (c .place .ensures) (sym (with-new _ _ (c .before .if2 .taken) new))
 
 returns-3 : tie.Need-returns-3
-unfolding with
-returns-3 c = simp (sym (c .before .before .has .ensures) ∙ c .before .if1 .left, le-ltb _ _ (c .if2 .left))
+returns-3 c = sym (with-large _ _ (c .if2 .left))
 
 pub with-spec : {M : Type 1} → statement M
 with-spec = tie.close (tie.spec has-requires returns place-requires add-result returns-2 returns-3)
