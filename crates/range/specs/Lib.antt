@@ -1,3 +1,12 @@
 pub mod Tests
 pub mod Phase
 pub mod Waits
+pub mod Facts
+pub mod Plans
+pub mod Pieces
+pub mod Common
+pub mod KeepsSearch
+pub mod KeepsJoin
+pub mod Kept
+pub mod Followed
+pub mod Refused

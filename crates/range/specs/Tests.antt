@@ -1,7 +1,10 @@
--- A test that holds, taken apart.
-use mathlib.Core.Bool.{Bool, true, false, _&&_, _||_, true≢false}
+-- Tests that hold, taken apart.
+use mathlib.Core.Bool.{Bool, true, false, cond, _&&_, _||_, true≢false}
+use mathlib.Core.List.{List, [], _∷_, map}
 use mathlib.Core.Logic.{_⊎_, inl, inr}
 use mathlib.Core.Path.{_≡_, refl, sym}
+use Prim.Native.Nat.{ℕ, zero, suc}
+use lib.ListN.{getD}
 
 -- both parts of a conjunction hold
 pub both : (a b : Bool) → (a && b) ≡ true → (a ≡ true) × (b ≡ true)
@@ -12,3 +15,32 @@ both false b e = absurd (true≢false (sym e))
 pub either : (a b : Bool) → (a || b) ≡ true → (a ≡ true) ⊎ (b ≡ true)
 either true b e = inl refl
 either false b e = inr e
+
+-- a and the tests of a list, as `_&&_` joins them
+abbrev pub joined : Bool → List Bool → Bool
+joined a [] = a
+joined a (b ∷ bs) = joined (a && b) bs
+
+-- each test of a list holds
+abbrev pub Hold : List Bool → Type 0
+Hold [] = Unit {0}
+Hold (b ∷ bs) = (b ≡ true) × Hold bs
+
+-- of a conjunction of any length each part holds
+pub hold : (a : Bool) (bs : List Bool) → joined a bs ≡ true → Hold (a ∷ bs)
+hold a [] e = (e, tt)
+hold a (b ∷ bs) e = let h = hold (a && b) bs e in let p = both a b (h .0) in (p .0, (p .1, h .1))
+
+-- where each test of a list holds it holds at each index, and past the end for the default
+pub each : {A : Type 0} (ok : A → Bool) (l : List A) (d : A) → Hold (map ok l) → ok d ≡ true → (i : ℕ) → ok (getD l i d) ≡ true
+each ok [] d h e i = e
+each ok (x ∷ xs) d h e zero = h .0
+each ok (x ∷ xs) d h e (suc i) = each ok xs d (h .1) e i
+
+-- what holds for both holds for the one that a test picks; each may go by how the test went
+pub pick-by : {A : Type 0} (P : A → Type 0) (b : Bool) {x y : A} → (b ≡ true → P x) → (b ≡ false → P y) → P (cond b x y)
+pick-by P true p q = p refl
+pick-by P false p q = q refl
+
+pub pick : {A : Type 0} (P : A → Type 0) (b : Bool) {x y : A} → P x → P y → P (cond b x y)
+pick P b p q = pick-by P b (λ e. p) (λ e. q)

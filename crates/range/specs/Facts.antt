@@ -1,0 +1,209 @@
+-- "A state is in range": the tests of the range as facts, for every state record that the machine's types allow.
+use mathlib.Core.Bool.{Bool, true, false, true≢false, or-true}
+use mathlib.Core.List.{List, [], _∷_, map}
+use mathlib.Core.Logic.{_⊎_, inl, inr, ⊎-map}
+use mathlib.Core.Path.{_≡_, refl, sym}
+use Prim.Native.Nat.{ℕ, suc, _≤_, _<_, _^_}
+use native.Mathlib.Omega.{arith}
+use borrow.Author.Tests.{leb-true, ltb-true, eqb-true, le-leb, lt-ltb, eq-eqb}
+use lib.Dec.{leb, ltb, eqb}
+use lib.ListN.{length, getD}
+use Rattle.range.specs.Tests.{Hold, hold, each, both, either, pick}
+use Rattle.machine.specs.State.{none, nobody, topStatistics, zeroPlace, zeroThread, threadAt}
+use Rattle.machine.specs.Places.{isRouteBody, keysOf, keysOfBody, routeKeyOfBody, childOnBody}
+use Rattle.machine.specs.Range.{settingsInRange, bodyInRange, placeInRange, registerInRange, registersInRange, threadInRange, placesInRange, threadsInRange, countsInRange, inRange}
+use Rattle.machine.specs.declared.state.Settings.{Settings}
+use Rattle.machine.specs.declared.state.Lock.{Lock}
+use Rattle.machine.specs.declared.state.Body.{Body}
+use Rattle.machine.specs.declared.state.Body.the-variants.{Base, Route}
+use Rattle.machine.specs.declared.state.Place.{Place}
+use Rattle.machine.specs.declared.state.Thread.{Thread}
+use Rattle.machine.specs.declared.state.State.{State}
+
+-- what the machine's types say of any state record: 128 places, 8 threads, and in each base a set of keys
+pub record Whole (s : State) : Type 0 where
+  pub places : length (s .places) ≡ 128
+  pub threads : length (s .threads) ≡ 8
+  pub keys : (n : ℕ) → keysOf (getD (s .places) n zeroPlace) < 2 ^ 64
+
+-- "succ 0 to 1,000; fail 0 to 1,000; min −1,000,000 to 0; max 0 to 1,000,000"
+pub record SettingsOk (c : Settings) : Type 0 where
+  pub succ : c .succ ≤ 1000
+  pub fail : c .fail ≤ 1000
+  pub low : c .low ≤ 1000000
+  pub max : c .max ≤ 1000000
+
+-- a holder that is none or a thread, statistics within their stops
+pub record LockOk (l : Lock) : Type 0 where
+  pub holder : l .holder ≤ nobody
+  pub statistics : l .statistics ≤ topStatistics
+
+-- a set of keys; of a route a key 0 to 63 and children that are made nodes
+pub record BodyOk (made : ℕ) (b : Body) : Type 0 where
+  pub keys : keysOfBody b < 2 ^ 64
+  pub key : routeKeyOfBody b ≤ 63
+  pub child : (w : Bool) → isRouteBody b ≡ true → childOnBody w b < made
+
+pub record PlaceOk (made : ℕ) (p : Place) : Type 0 where
+  pub lock : LockOk (p .lock)
+  pub body : BodyOk made (p .body)
+
+-- "A node register is none or a made node"
+abbrev pub RegisterOk : ℕ → ℕ → Type 0
+RegisterOk made r = (r ≡ none) ⊎ (r < made)
+
+-- "phase 0 to 25", an operation 0 to 2, a key 0 to 63, "answers 0 or 1, commit numbers at most 1,000,000"
+pub record NumbersOk (t : Thread) : Type 0 where
+  pub phase : t .phase ≤ 25
+  pub operation : t .operation ≤ 2
+  pub key : t .key ≤ 63
+  pub answer : t .answer ≤ 1
+  pub commit : t .commit ≤ 1000000
+
+-- the node registers of a thread
+abbrev pub registersOf : Thread → List ℕ
+registersOf t = t .prev ∷ t .base ∷ t .walk ∷ t .neighbour ∷ t .grandparent ∷ t .made ∷ []
+
+pub record ThreadOk (made : ℕ) (t : Thread) : Type 0 where
+  pub numbers : NumbersOk t
+  pub registers : (i : ℕ) → RegisterOk made (getD (registersOf t) i none)
+
+-- the counts and the root: made 1 to 128, at most 1,000,000 begun, "committed ≤ begun"
+pub record CountsOk (s : State) : Type 0 where
+  pub some : 1 ≤ s .made
+  pub most : s .made ≤ 128
+  pub begun : s .begun ≤ 1000000
+  pub committed : s .committed ≤ s .begun
+  pub root : s .root < s .made
+
+-- a whole state that is in range
+pub record InRange (s : State) : Type 0 where
+  pub settings : SettingsOk (s .settings)
+  pub counts : CountsOk s
+  pub places : (n : ℕ) → PlaceOk (s .made) (getD (s .places) n zeroPlace)
+  pub threads : (t : ℕ) → ThreadOk (s .made) (threadAt s t)
+  pub placeCount : length (s .places) ≡ 128
+  pub threadCount : length (s .threads) ≡ 8
+
+-- ---- from the tests to the facts
+
+pub settings-facts : (c : Settings) → settingsInRange c ≡ true → SettingsOk c
+unfolding settingsInRange
+settings-facts c h =
+    let f = hold (leb (c .succ) 1000) (leb (c .fail) 1000 ∷ leb (c .low) 1000000 ∷ leb (c .max) 1000000 ∷ []) h in omega (arith, leb-true)
+
+counts-facts : (s : State) → countsInRange s ≡ true → CountsOk s
+unfolding countsInRange
+counts-facts s h =
+    let f = hold (leb 1 (s .made)) (leb (s .made) 128 ∷ leb (s .begun) 1000000 ∷ leb (s .committed) (s .begun) ∷ ltb (s .root) (s .made) ∷ []) h in
+    omega (arith, leb-true, ltb-true)
+
+body-facts : (made : ℕ) (b : Body) → keysOfBody b < 2 ^ 64 → bodyInRange made b ≡ true → BodyOk made b
+unfolding bodyInRange
+body-facts made (Base ks) l h = record { keys = l; key = omega arith; child = λ w e. absurd (true≢false (sym e)) }
+body-facts made (Route k l r) g h =
+    let f = hold (leb k 63) (ltb l made ∷ ltb r made ∷ []) h in
+    record { keys = g; key = omega (arith, leb-true); child = λ w e. pick (λ (n : ℕ). n < made) w (omega (arith, ltb-true)) (omega (arith, ltb-true)) }
+
+pub place-facts : (made : ℕ) (p : Place) → keysOf p < 2 ^ 64 → placeInRange made p ≡ true → PlaceOk made p
+unfolding placeInRange
+place-facts made p l h =
+    let f = hold (leb (p .lock .holder) nobody) (leb (p .lock .statistics) topStatistics ∷ bodyInRange made (p .body) ∷ []) h in
+    record { lock = omega (arith, leb-true); body = body-facts made (p .body) l (f .1 .1 .0) }
+
+register-facts : (made r : ℕ) → registerInRange made r ≡ true → RegisterOk made r
+unfolding registerInRange
+register-facts made r h = ⊎-map (eqb-true r none) (ltb-true r made) (either (eqb r none) (ltb r made) h)
+
+pub thread-facts : (made : ℕ) (t : Thread) → threadInRange made t ≡ true → ThreadOk made t
+unfolding threadInRange registersInRange registerInRange
+thread-facts made t h =
+    let f = hold (leb (t .phase) 25) (leb (t .operation) 2 ∷ leb (t .key) 63 ∷ leb (t .answer) 1 ∷ leb (t .commit) 1000000 ∷ registersInRange made t ∷ []) h in
+    let ok = registerInRange made in
+    let g = hold (ok (t .prev)) (ok (t .base) ∷ ok (t .walk) ∷ ok (t .neighbour) ∷ ok (t .grandparent) ∷ ok (t .made) ∷ []) (f .1 .1 .1 .1 .1 .0) in
+    record { numbers = omega (arith, leb-true); registers = λ i. register-facts made _ (each ok (registersOf t) none g refl i) }
+
+places-hold : (made : ℕ) (ps : List Place) → placesInRange made ps ≡ true → Hold (map (placeInRange made) ps)
+unfolding placesInRange
+places-hold made [] h = tt
+places-hold made (p ∷ ps) h =
+    let b = both (placeInRange made p) (placesInRange made ps) h in (b .0, places-hold made ps (b .1))
+
+threads-hold : (made : ℕ) (ts : List Thread) → threadsInRange made ts ≡ true → Hold (map (threadInRange made) ts)
+unfolding threadsInRange
+threads-hold made [] h = tt
+threads-hold made (t ∷ ts) h =
+    let b = both (threadInRange made t) (threadsInRange made ts) h in (b .0, threads-hold made ts (b .1))
+
+-- what an index past the end reads is in range too
+zero-place : (made : ℕ) → placeInRange made zeroPlace ≡ true
+unfolding placeInRange bodyInRange
+zero-place made = refl
+
+zero-thread : (made : ℕ) → 1 ≤ made → threadInRange made zeroThread ≡ true
+unfolding threadInRange registersInRange registerInRange zeroThread
+zero-thread made l = simp (lt-ltb 0 made l)
+
+-- the range test as facts
+pub facts : (s : State) → Whole s → inRange s ≡ true → InRange s
+unfolding inRange threadAt
+facts s w h =
+    let made = s .made in
+    let f = hold (settingsInRange (s .settings)) (countsInRange s ∷ placesInRange made (s .places) ∷ threadsInRange made (s .threads) ∷ []) h in
+    let c = counts-facts s (f .1 .0) in
+    record {
+      settings = settings-facts (s .settings) (f .0);
+      counts = c;
+      places = λ n. place-facts made (getD (s .places) n zeroPlace) (w .keys n) (each (placeInRange made) (s .places) zeroPlace (places-hold made (s .places) (f .1 .1 .0)) (zero-place made) n);
+      threads = λ t. thread-facts made (threadAt s t) (each (threadInRange made) (s .threads) zeroThread (threads-hold made (s .threads) (f .1 .1 .1 .0)) (zero-thread made (c .some)) t);
+      placeCount = w .places;
+      threadCount = w .threads;
+    }
+
+-- ---- from the facts to the tests
+
+settings-test : (c : Settings) → SettingsOk c → settingsInRange c ≡ true
+unfolding settingsInRange
+settings-test c f = simp (le-leb _ _ (f .succ), le-leb _ _ (f .fail), le-leb _ _ (f .low), le-leb _ _ (f .max))
+
+counts-test : (s : State) → CountsOk s → countsInRange s ≡ true
+unfolding countsInRange
+counts-test s f =
+    simp (le-leb _ _ (f .some), le-leb _ _ (f .most), le-leb _ _ (f .begun), le-leb _ _ (f .committed), lt-ltb _ _ (f .root))
+
+body-test : (made : ℕ) (b : Body) → BodyOk made b → bodyInRange made b ≡ true
+unfolding bodyInRange
+body-test made (Base ks) f = refl
+body-test made (Route k l r) f = simp (le-leb _ _ (f .key), lt-ltb _ _ (f .child false refl), lt-ltb _ _ (f .child true refl))
+
+places-test : (made : ℕ) (ps : List Place) → ((n : ℕ) → PlaceOk made (getD ps n zeroPlace)) → placesInRange made ps ≡ true
+unfolding placesInRange placeInRange
+places-test made [] f = refl
+places-test made (p ∷ ps) f =
+    simp (le-leb _ _ (f 0 .lock .holder), le-leb _ _ (f 0 .lock .statistics), body-test made (p .body) (f 0 .body), places-test made ps (λ n. f (suc n)))
+
+register-test : (made r : ℕ) → RegisterOk made r → registerInRange made r ≡ true
+unfolding registerInRange
+register-test made r (inl e) = simp (eq-eqb r none e)
+register-test made r (inr l) = simp (lt-ltb r made l, or-true)
+
+thread-test : (made : ℕ) (t : Thread) → ThreadOk made t → threadInRange made t ≡ true
+unfolding threadInRange registersInRange
+thread-test made t f =
+    let n = f .numbers in
+    let r : (i : ℕ) → registerInRange made (getD (registersOf t) i none) ≡ true = λ i. register-test made _ (f .registers i) in
+    simp (le-leb _ _ (n .phase), le-leb _ _ (n .operation), le-leb _ _ (n .key), le-leb _ _ (n .answer), le-leb _ _ (n .commit), r 0, r 1, r 2, r 3, r 4, r 5)
+
+threads-test : (made : ℕ) (ts : List Thread) → ((t : ℕ) → ThreadOk made (getD ts t zeroThread)) → threadsInRange made ts ≡ true
+unfolding threadsInRange
+threads-test made [] f = refl
+threads-test made (t ∷ ts) f = simp (thread-test made t (f 0), threads-test made ts (λ n. f (suc n)))
+
+-- the facts as the range test, and the state is whole
+pub in-range : (s : State) → InRange s → inRange s ≡ true
+unfolding inRange threadAt
+in-range s f =
+    simp (settings-test _ (f .settings), counts-test s (f .counts), places-test (s .made) (s .places) (f .places), threads-test (s .made) (s .threads) (f .threads))
+
+pub whole : {s : State} → InRange s → Whole s
+whole f = record { places = f .placeCount; threads = f .threadCount; keys = λ n. f .places n .body .keys }

@@ -1,0 +1,125 @@
+-- What rows do to a thread and to a place keeps each in range.
+use mathlib.Core.Bool.{Bool, true, false, true≢false}
+use mathlib.Core.Logic.{inl, inr}
+use mathlib.Core.Path.{_≡_, refl, sym}
+use Prim.Native.Nat.{ℕ, _≤_, _<_, _^_}
+use native.Mathlib.Omega.{arith}
+use lib.Dec.{T, eqb, leb, lit≤}
+use Rattle.keys.specs.Laws.{with-lt, without-lt}
+use Rattle.range.specs.Tests.{pick}
+use Rattle.range.specs.Facts.{LockOk, BodyOk, PlaceOk, place-facts, RegisterOk, registersOf, ThreadOk, thread-facts}
+use Rattle.range.specs.Plans.{each-set}
+use Rattle.machine.specs.State.{none, freshThread, newNode, zeroPlace}
+use Rattle.machine.specs.Registers.{atPhase, setPrev, setBase, setWalk, setNeighbour, setGrandparent, setMade, setSide, setAnswer, setOperation}
+use Rattle.machine.specs.Places.{isRouteBody, childOnBody, childOn, swapBody, takesPlace, withLock, tried, taken3, taken4, released, zeroed, release, zero, invalid, withKeys, answerOf, keysAfter}
+use Rattle.machine.specs.Range.{bodyInRange, placeInRange, registerInRange, registersInRange, threadInRange}
+use Rattle.machine.specs.declared.state.Settings.{Settings}
+use Rattle.machine.specs.declared.state.Lock.{Lock}
+use Rattle.machine.specs.declared.state.Body.{Body}
+use Rattle.machine.specs.declared.state.Body.the-variants.{Base, Route}
+use Rattle.machine.specs.declared.state.Place.{Place}
+use Rattle.machine.specs.declared.state.Thread.{Thread}
+
+-- ---- a thread
+
+module _ {m : ℕ} {t : Thread} where
+  -- the phase
+  pub phase-ok : (p : ℕ) → T (leb p 25) → ThreadOk m t → ThreadOk m (atPhase p t)
+  phase-ok p l f = let n = f .numbers in let b : p ≤ 25 = lit≤ l in record { numbers = omega arith; registers = f .registers }
+
+  -- a register, set to none or to a made node
+  pub prev-ok : (x : ℕ) → RegisterOk m x → ThreadOk m t → ThreadOk m (setPrev x t)
+  prev-ok x r f = let n = f .numbers in record { numbers = omega arith; registers = each-set (RegisterOk m) (registersOf t) 0 x none r (f .registers) }
+
+  pub base-ok : (x : ℕ) → RegisterOk m x → ThreadOk m t → ThreadOk m (setBase x t)
+  base-ok x r f = let n = f .numbers in record { numbers = omega arith; registers = each-set (RegisterOk m) (registersOf t) 1 x none r (f .registers) }
+
+  pub walk-ok : (x : ℕ) → RegisterOk m x → ThreadOk m t → ThreadOk m (setWalk x t)
+  walk-ok x r f = let n = f .numbers in record { numbers = omega arith; registers = each-set (RegisterOk m) (registersOf t) 2 x none r (f .registers) }
+
+  pub neighbour-ok : (x : ℕ) → RegisterOk m x → ThreadOk m t → ThreadOk m (setNeighbour x t)
+  neighbour-ok x r f = let n = f .numbers in record { numbers = omega arith; registers = each-set (RegisterOk m) (registersOf t) 3 x none r (f .registers) }
+
+  pub grandparent-ok : (x : ℕ) → RegisterOk m x → ThreadOk m t → ThreadOk m (setGrandparent x t)
+  grandparent-ok x r f = let n = f .numbers in record { numbers = omega arith; registers = each-set (RegisterOk m) (registersOf t) 4 x none r (f .registers) }
+
+  pub made-ok : (x : ℕ) → RegisterOk m x → ThreadOk m t → ThreadOk m (setMade x t)
+  made-ok x r f = let n = f .numbers in record { numbers = omega arith; registers = each-set (RegisterOk m) (registersOf t) 5 x none r (f .registers) }
+
+  pub side-ok : (w : Bool) → ThreadOk m t → ThreadOk m (setSide w t)
+  side-ok w f = let n = f .numbers in record { numbers = omega arith; registers = f .registers }
+
+  pub answer-ok : (a n : ℕ) → a ≤ 1 → n ≤ 1000000 → ThreadOk m t → ThreadOk m (setAnswer a n t)
+  answer-ok a n l h f = let b = f .numbers in record { numbers = omega arith; registers = f .registers }
+
+  pub operation-ok : (o k : ℕ) → o ≤ 2 → k ≤ 63 → ThreadOk m t → ThreadOk m (setOperation o k t)
+  operation-ok o k l h f = let b = f .numbers in record { numbers = omega arith; registers = f .registers }
+
+pub fresh-thread-ok : (m : ℕ) → ThreadOk m freshThread
+unfolding threadInRange registersInRange registerInRange
+fresh-thread-ok m = thread-facts m freshThread refl
+
+pub answer-small : (o : ℕ) (b : Bool) → answerOf o b ≤ 1
+answer-small o b =
+    pick (λ (a : ℕ). a ≤ 1) (eqb o 0) (pick (λ (a : ℕ). a ≤ 1) b (omega arith) (omega arith)) (pick (λ (a : ℕ). a ≤ 1) b (omega arith) (omega arith))
+
+-- ---- a place
+
+pub zero-place-ok : (m : ℕ) → PlaceOk m zeroPlace
+unfolding placeInRange bodyInRange
+zero-place-ok m = place-facts m zeroPlace (omega arith) refl
+
+pub base-body-ok : (m ks : ℕ) → ks < 2 ^ 64 → BodyOk m (Base ks)
+base-body-ok m ks l = record { keys = l; key = omega arith; child = λ w e. absurd (true≢false (sym e)) }
+
+pub new-ok : {m : ℕ} {b : Body} → BodyOk m b → PlaceOk m (newNode b)
+new-ok f = record { lock = omega arith; body = f }
+
+module _ {m : ℕ} {p : Place} where
+  pub lock-ok : (l : Lock) → LockOk l → PlaceOk m p → PlaceOk m (withLock l p)
+  lock-ok l g f = record { lock = g; body = f .body }
+
+  -- "Taking at phase 3", "at phase 4", "A try on a neighbour, and route locks"
+  pub taken3-ok : (me : ℕ) (c : Settings) → me ≤ 7 → PlaceOk m p → PlaceOk m (withLock (taken3 me c (p .lock)) p)
+  taken3-ok me c h f = let l = f .lock in lock-ok (taken3 me c (p .lock)) (omega arith) f
+
+  pub taken4-ok : (me : ℕ) (c : Settings) → me ≤ 7 → PlaceOk m p → PlaceOk m (withLock (taken4 me c (p .lock)) p)
+  taken4-ok me c h f = let l = f .lock in lock-ok (taken4 me c (p .lock)) (omega arith) f
+
+  pub tried-ok : (me : ℕ) → me ≤ 7 → PlaceOk m p → PlaceOk m (withLock (tried me (p .lock)) p)
+  tried-ok me h f = let l = f .lock in lock-ok (tried me (p .lock)) (omega arith) f
+
+  pub release-ok : PlaceOk m p → PlaceOk m (release p)
+  release-ok f = let l = f .lock in lock-ok (released (p .lock)) (omega arith) f
+
+  pub zero-ok : PlaceOk m p → PlaceOk m (zero p)
+  zero-ok f = let l = f .lock in lock-ok (zeroed (p .lock)) (omega arith) f
+
+  pub invalid-ok : PlaceOk m p → PlaceOk m (invalid p)
+  invalid-ok f = record { lock = f .lock; body = f .body }
+
+  pub keys-ok : (ks : ℕ) → ks < 2 ^ 64 → PlaceOk m p → PlaceOk m (withKeys ks p)
+  keys-ok ks l f = record { lock = f .lock; body = base-body-ok m ks l }
+
+pub keys-after-ok : (o ks k : ℕ) → ks < 2 ^ 64 → keysAfter o ks k < 2 ^ 64
+keys-after-ok o ks k l =
+    pick (λ (x : ℕ). x < 2 ^ 64) (eqb o 0) (with-lt ks k l) (pick (λ (x : ℕ). x < 2 ^ 64) (eqb o 1) (without-lt ks k l) l)
+
+-- the child of a place in range is a made node, or none where the place is a base
+pub child-ok : (m : ℕ) (w : Bool) (p : Place) → PlaceOk m p → RegisterOk m (childOn w p)
+child-ok m w p f = go (p .body) (f .body .child w)
+  where
+    go : (b : Body) → (isRouteBody b ≡ true → childOnBody w b < m) → RegisterOk m (childOnBody w b)
+    go (Base ks) g = inl refl
+    go (Route k l r) g = inr (g refl)
+
+-- a made node takes the place of a child
+pub takes-ok : {m : ℕ} {p : Place} (x new : ℕ) → new < m → PlaceOk m p → PlaceOk m (takesPlace x new p)
+takes-ok {m} {p} x new l f = record { lock = f .lock; body = go (p .body) (f .body) }
+  where
+    go : (b : Body) → BodyOk m b → BodyOk m (swapBody x new b)
+    go (Base ks) g = g
+    go (Route k c d) g =
+        pick (BodyOk m) (eqb c x)
+        (record { keys = g .keys; key = g .key; child = λ w e. pick (λ (n : ℕ). n < m) w (g .child true e) l })
+        (record { keys = g .keys; key = g .key; child = λ w e. pick (λ (n : ℕ). n < m) w l (g .child false e) })

@@ -1,0 +1,87 @@
+-- "State unchanged in all": a refused call leaves the state. And how many steps a run says that it took.
+use mathlib.Core.Bool.{Bool, true, false, not}
+use mathlib.Core.Path.{_≡_, refl, subst}
+use Prim.Native.Nat.{ℕ, zero, suc, _+_, _≤_, _<_}
+use native.Mathlib.Nat.{zero-add}
+use native.Mathlib.Omega.{arith}
+use lib.Dec.{eqb, leb, ltb}
+use Rattle.range.specs.Tests.{pick}
+use Rattle.range.specs.Kept.{run-tests}
+use Rattle.machine.specs.State.{threadAt}
+use Rattle.machine.specs.Rows.{stuck}
+use Rattle.machine.specs.Range.{inRange}
+use Rattle.machine.specs.Step.{beginOf, viewOf, after, ends, replyOf, stepOf, steps, runOf}
+use Rattle.machine.specs.declared.state.State.{State}
+use Rattle.machine.specs.declared.answer.Begin.{Begin}
+use Rattle.machine.specs.declared.answer.BeginReply as BeginReply
+use Rattle.machine.specs.declared.answer.Step.{Step}
+use Rattle.machine.specs.declared.answer.StepReply as StepReply
+use Rattle.machine.specs.declared.answer.Run.{Run}
+use Rattle.machine.specs.declared.answer.RunReply as RunReply
+
+-- begin
+pub begin-refused : (s : State) (t o k n : ℕ) → beginOf s t o k .reply ≡ BeginReply.the-variants.Refused n → beginOf s t o k .state ≡ s
+unfolding beginOf
+begin-refused s t o k n =
+    let Q : Begin → Type 0 = λ b. b .reply ≡ BeginReply.the-variants.Refused n → b .state ≡ s in
+    pick Q (not (inRange s)) (λ e. refl)
+    (pick Q (ltb 2 o) (λ e. refl)
+    (pick Q (ltb 7 t) (λ e. refl)
+    (pick Q (ltb 63 k) (λ e. refl)
+    (pick Q (not (eqb (threadAt s t .phase) 0)) (λ e. refl) (pick Q (leb 1000000 (s .begun)) (λ e. refl) (λ e. cc))))))
+
+-- one step
+pub step-refused : (s : State) (t n : ℕ) → stepOf s t .reply ≡ StepReply.the-variants.Refused n → stepOf s t .state ≡ s
+unfolding stepOf replyOf
+step-refused s t n =
+    let Q : Step → Type 0 = λ b. b .reply ≡ StepReply.the-variants.Refused n → b .state ≡ s in
+    let R : StepReply.StepReply → Type 0 = λ r. r ≡ StepReply.the-variants.Refused n → after s t ≡ s in
+    pick Q (not (inRange s)) (λ e. refl)
+    (pick Q (ltb 7 t) (λ e. refl)
+    (pick Q (eqb (threadAt s t .phase) 0) (λ e. refl)
+    (pick Q (stuck (viewOf s t)) (λ e. refl) (pick R (ends (threadAt s t)) (λ e. cc) (λ e. cc)))))
+
+-- what the reply of counted steps tells: stopped, all of them were taken; ended, some; refused, the state is the one before
+abbrev Tells : State → ℕ → ℕ → State → RunReply.RunReply → Type 0
+Tells from few all s (RunReply.the-variants.Stops k p) = k ≡ all
+Tells from few all s (RunReply.the-variants.Ends k a c) = (few < k) × (k ≤ all)
+Tells from few all s (RunReply.the-variants.Refused m) = s ≡ from
+
+abbrev Told : State → ℕ → ℕ → Run → Type 0
+Told from few all r = Tells from few all (r .state) (r .reply)
+
+later : (from : State) (few n : ℕ) (s : State) (r : RunReply.RunReply) → Tells from (suc few) (suc few + n) s r → Tells from few (few + suc n) s r
+later from few n s (RunReply.the-variants.Stops k p) h = omega arith
+later from few n s (RunReply.the-variants.Ends k a c) h = omega arith
+later from few n s (RunReply.the-variants.Refused m) h = h
+
+steps-tell : (n : ℕ) (from s : State) (t taken : ℕ) → Told from taken (taken + n) (steps n from s t taken)
+unfolding steps
+steps-tell zero from s t taken = omega arith
+steps-tell (suc n) from s t taken =
+    let r = steps n from (after s t) t (suc taken) in
+    go (stuck (viewOf s t)) refl (ends (threadAt s t)) refl (later from taken n (r .state) (r .reply) (steps-tell n from (after s t) t (suc taken)))
+  where
+    go : (a : Bool) → stuck (viewOf s t) ≡ a → (b : Bool) → ends (threadAt s t) ≡ b → Told from taken (taken + suc n) (steps n from (after s t) t (suc taken)) → Told from taken (taken + suc n) (steps (suc n) from s t taken)
+    go true e b g h = simp (steps, e) refl
+    go false e true g h = simp (steps, e, g) (omega arith)
+    go false e false g h = simp (steps, e, g) h
+
+run-tells : (s : State) (t n : ℕ) → Told s 0 n (runOf s t n)
+run-tells s t n =
+    rw (run-tests s t n)
+    (pick (Told s 0 n) (not (inRange s)) refl
+    (pick (Told s 0 n) (ltb 7 t) refl
+    (pick (Told s 0 n) (eqb n 0) refl
+    (pick (Told s 0 n) (ltb 1000 n) refl (pick (Told s 0 n) (eqb (threadAt s t .phase) 0) refl (rw zero-add at (steps-tell n s s t 0)))))))
+
+-- counted steps
+pub run-refused : (s : State) (t n m : ℕ) → runOf s t n .reply ≡ RunReply.the-variants.Refused m → runOf s t n .state ≡ s
+run-refused s t n m e = subst (Tells s 0 n (runOf s t n .state)) e (run-tells s t n)
+
+-- "until n have been taken or the operation ends"
+pub run-stops : (s : State) (t n k p : ℕ) → runOf s t n .reply ≡ RunReply.the-variants.Stops k p → k ≡ n
+run-stops s t n k p e = subst (Tells s 0 n (runOf s t n .state)) e (run-tells s t n)
+
+pub run-ends : (s : State) (t n k a c : ℕ) → runOf s t n .reply ≡ RunReply.the-variants.Ends k a c → (1 ≤ k) × (k ≤ n)
+run-ends s t n k a c e = subst (Tells s 0 n (runOf s t n .state)) e (run-tells s t n)
