@@ -14,3 +14,4 @@ pub mod row;
 mod search;
 mod split;
 pub mod state;
+mod view;

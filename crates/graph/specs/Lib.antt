@@ -1,0 +1,9 @@
+pub mod Cases
+pub mod Walk
+pub mod Tree
+pub mod Slot
+pub mod Graft
+pub mod Graph
+pub mod Hang
+pub mod Splice
+pub mod Track

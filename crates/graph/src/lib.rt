@@ -1,0 +1,1 @@
+// Laws of walks and trees: theorems only, no function.
