@@ -74,7 +74,7 @@ fresh c =
 abbrev pub zeroPlace : Place
 zeroPlace = record { lock = record { holder = 0; statistics = 0 }; valid = false; body = Base 0 }
 
-unfoldable pub zeroThread : Thread
+abbrev pub zeroThread : Thread
 zeroThread =
     record {
       phase = 0;

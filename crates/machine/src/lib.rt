@@ -8,6 +8,7 @@ mod neighbour;
 mod phase;
 mod place;
 mod plan;
+pub mod range;
 mod ready;
 mod register;
 pub mod row;
