@@ -32,7 +32,7 @@ abbrev pub freshLock : Lock
 freshLock = record { holder = nobody; statistics = zeroStatistics }
 
 -- a place that is not made: invalid, free, empty
-unfoldable pub unmade : Place
+abbrev pub unmade : Place
 unmade = record { lock = freshLock; valid = false; body = Base 0 }
 
 -- "New nodes are valid and free with statistics 0"

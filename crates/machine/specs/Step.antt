@@ -149,10 +149,13 @@ ends t = eqb (t .phase) 25
 abbrev pub refusedStep : State → ℕ → Step
 refusedStep s n = record { reply = StepReply.the-variants.Refused n; state = s }
 
+-- what the step of thread `th` with plan p answers
+abbrev pub replyFrom : Thread → Plan → StepReply.StepReply
+replyFrom th p =
+    cond (ends th) (StepReply.the-variants.Ends (th .answer) (th .commit)) (StepReply.the-variants.Goes (p .thread .phase))
+
 unfoldable pub replyOf : State → ℕ → StepReply.StepReply
-replyOf s t =
-    cond (ends (threadAt s t)) (StepReply.the-variants.Ends (threadAt s t .answer) (threadAt s t .commit))
-    (StepReply.the-variants.Goes (planOf (viewOf s t) .thread .phase))
+replyOf s t = replyFrom (threadAt s t) (planOf (viewOf s t))
 
 -- "Order: .. step 7, 3, 6, 8"
 unfoldable pub stepOf : State → ℕ → Step

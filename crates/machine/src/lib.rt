@@ -1,5 +1,6 @@
 // The lock-based contention adapting search tree, one step at a time.
 pub mod answer;
+pub mod calls;
 mod commit;
 mod join;
 pub mod list;

@@ -1,0 +1,23 @@
+-- A step at phase 5 that is not stuck has an operation left to commit.
+use mathlib.Core.Path.{_≡_, _∙_, refl, sym, ap}
+use mathlib.Core.Bool.{Bool, true, false, not, _&&_, _||_, true≢false, false≢true}
+use Prim.Native.Nat.{ℕ, _<_}
+use lib.Dec.{ltb}
+use lib.ListN.{getD}
+use borrow.Author.Tests.{ltb-true}
+use Rattle.machine.specs.Rows.{aboveMax, belowMin, baseB, noneOrP, needs, idle, stuck}
+use Rattle.machine.specs.declared.row.View.{View}
+
+-- what a step at 5 needs, with the valid flag b and the test l of the counts
+counts : (a b l m : Bool) → b ≡ true → not (a && (not b || (l && m))) ≡ false → l ≡ true
+counts true true true m w h = refl
+counts true true false m w h = absurd (true≢false h)
+counts true false l m w h = absurd (false≢true w)
+counts false b l m w h = absurd (true≢false h)
+
+pub can-commit : (v : View) → stuck v ≡ false → v .thread .phase ≡ 5 → v .base .valid ≡ true → v .committed < v .begun
+unfolding stuck needs
+can-commit v h e w =
+    ltb-true (v .committed) (v .begun)
+    (counts (baseB v) (v .base .valid) (ltb (v .committed) (v .begun)) (aboveMax v || not (belowMin v) || noneOrP v) w
+    (ap (λ (p : ℕ). not (getD needs p idle v)) (sym e) ∙ h))

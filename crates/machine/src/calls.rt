@@ -1,0 +1,193 @@
+// The calls on a state: fresh, begin, step and counted steps. Each leaves the state as it came where it refuses.
+use crate::answer::Begin;
+use crate::answer::BeginReply;
+use crate::answer::Fresh;
+use crate::answer::FreshReply;
+use crate::answer::Step;
+use crate::answer::StepReply;
+use crate::phase;
+use crate::place;
+use crate::range;
+use crate::ready;
+use crate::register;
+use crate::row::Plan;
+use crate::state::Body;
+use crate::state::Lock;
+use crate::state::Place;
+use crate::state::Settings;
+use crate::state::State;
+use crate::state::Thread;
+use crate::view;
+ghost use mathlib.Core.Path.{_≡_};
+ghost use mathlib.Core.Bool.{true};
+ghost use Prim.Native.Nat.{_<_, _≤_};
+ghost use Rattle.machine.specs.State.{unmade};
+ghost use Rattle.machine.specs.Step.{zeroSettings, freshOf, begun, beginOf, after, stepOf};
+
+// A place that is not made.
+fn unmade() -> Place
+    ensures { λ r. ⌜ r ≡ unmade ⌝ }
+{
+    Place {
+        lock: Lock {
+            holder: 8,
+            statistics: 2000000,
+        },
+        valid: false,
+        body: Body::Base { keys: 0 },
+    }
+}
+
+// The fresh state of a run.
+fn fresh_state(c: Settings) -> State
+    ensures { λ r. ⌜ r ≡ Rattle.machine.specs.State.fresh c ⌝ }
+{
+    let first = place::new_node(Body::Base { keys: 0 });
+    let none = unmade();
+    let mut places = [none; 128];
+    places[0] = first;
+    let idle = register::fresh_thread();
+    let threads = [idle; 8];
+    State {
+        root: 0,
+        made: 1,
+        begun: 0,
+        committed: 0,
+        settings: c,
+        places,
+        threads,
+    }
+}
+
+// A fresh state with settings that are in range, or 2; `low` is how far min lies below 0. A refused call has the fresh state of settings 0.
+pub fn fresh(succ: u32, fail: u32, low: u32, max: u32) -> Fresh
+    ensures { λ r. ⌜ r ≡ freshOf (record { succ = succ; fail = fail; low = low; max = max }) ⌝ }
+{
+    let c = Settings {
+        succ,
+        fail,
+        low,
+        max,
+    };
+    if range::settings_in_range(c) {
+        return Fresh {
+            reply: FreshReply::Made,
+            state: fresh_state(c),
+        };
+    }
+    let zero = Settings {
+        succ: 0,
+        fail: 0,
+        low: 0,
+        max: 0,
+    };
+    Fresh {
+        reply: FreshReply::Refused { number: 2 },
+        state: fresh_state(zero),
+    }
+}
+
+fn refused_begin(s: State, number: u8) -> Begin
+    ensures { λ r. ⌜ r ≡ Rattle.machine.specs.Step.refusedBegin s number ⌝ }
+{
+    Begin {
+        reply: BeginReply::Refused { number },
+        state: s,
+    }
+}
+
+// Begun goes up by one, and the thread gets the operation, the key and phase 1.
+fn begun(s: State, t: u32, o: u8, k: u8) -> State
+    requires { ⌜ (t < 8) × (s .begun < 1000000) ⌝ }
+    ensures { λ r. ⌜ r ≡ begun s t o k ⌝ }
+{
+    let next = s.begun + 1;
+    let i = t as usize;
+    let mut u = s;
+    let th = u.threads[i];
+    let begins = register::set_operation(o, k, th);
+    u.threads[i] = begins;
+    u.begun = next;
+    u
+}
+
+// Begin operation `o` (0 insert, 1 delete, 2 lookup) on key `k` in thread `t`.
+pub fn begin(s: State, t: u32, o: u32, k: u32) -> Begin
+    ensures { λ r. ⌜ r ≡ beginOf s t o k ⌝ }
+{
+    if !range::in_range(s) {
+        return refused_begin(s, 7);
+    }
+    if 2 < o {
+        return refused_begin(s, 1);
+    }
+    if 7 < t {
+        return refused_begin(s, 3);
+    }
+    if 63 < k {
+        return refused_begin(s, 4);
+    }
+    let i = t as usize;
+    let th = s.threads[i];
+    if th.phase != 0 {
+        return refused_begin(s, 5);
+    }
+    let n = s.begun;
+    if 1000000 <= n {
+        return refused_begin(s, 11);
+    }
+    Begin {
+        reply: BeginReply::Begun,
+        state: begun(s, t, o as u8, k as u8),
+    }
+}
+
+fn refused_step(s: State, number: u8) -> Step
+    ensures { λ r. ⌜ r ≡ Rattle.machine.specs.Step.refusedStep s number ⌝ }
+{
+    Step {
+        reply: StepReply::Refused { number },
+        state: s,
+    }
+}
+
+// What a step answers: the phase that it goes to, or how the operation ends.
+fn reply_of(t: Thread, p: Plan) -> StepReply
+    ensures { λ r. ⌜ r ≡ Rattle.machine.specs.Step.replyFrom t p ⌝ }
+{
+    if t.phase == 25 {
+        return StepReply::Ends {
+            answer: t.answer,
+            commit: t.commit,
+        };
+    }
+    StepReply::Goes {
+        phase: p.thread.phase,
+    }
+}
+
+// The next step of thread `t`.
+pub fn step(s: State, t: u32) -> Step
+    ensures { λ r. ⌜ r ≡ stepOf s t ⌝ }
+{
+    if !range::in_range(s) {
+        return refused_step(s, 7);
+    }
+    if 7 < t {
+        return refused_step(s, 3);
+    }
+    let i = t as usize;
+    let th = s.threads[i];
+    if th.phase == 0 {
+        return refused_step(s, 6);
+    }
+    let v = view::view(s, t);
+    if ready::stuck(v) {
+        return refused_step(s, 8);
+    }
+    let p = phase::plan_of(v);
+    Step {
+        reply: reply_of(th, p),
+        state: view::apply(s, t, p),
+    }
+}
