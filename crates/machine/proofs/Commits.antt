@@ -5,8 +5,8 @@ use Prim.Native.Nat.{ℕ, _<_}
 use lib.Dec.{ltb}
 use lib.ListN.{getD}
 use borrow.Author.Tests.{ltb-true}
-use Rattle.machine.specs.Rows.{aboveMax, belowMin, baseB, noneOrP, needs, idle, stuck}
-use Rattle.machine.specs.declared.row.View.{View}
+use Rattle.rules.specs.Rows.{aboveMax, belowMin, baseB, noneOrP, needs, idle, stuck}
+use Rattle.rules.specs.declared.row.View.{View}
 
 -- what a step at 5 needs, with the valid flag b and the test l of the counts
 counts : (a b l m : Bool) → b ≡ true → not (a && (not b || (l && m))) ≡ false → l ≡ true

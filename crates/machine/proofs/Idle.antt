@@ -3,9 +3,9 @@ use mathlib.Core.Path.{_≡_, _∙_, ap}
 use mathlib.Core.Bool.{Bool, false, not}
 use Prim.Native.Nat.{_≤_}
 use lib.ListN.{List·getD-eq-default}
-use Rattle.machine.specs.Rows.{only, row0, rows, planOf, needs, idle, stuck}
-use Rattle.machine.specs.declared.row.View.{View}
-use Rattle.machine.specs.declared.row.Plan.{Plan}
+use Rattle.rules.specs.Rows.{only, row0, rows, planOf, needs, idle, stuck}
+use Rattle.rules.specs.declared.row.View.{View}
+use Rattle.rules.specs.declared.row.Plan.{Plan}
 
 pub plan-idle : (v : View) → v .thread .phase ≡ 0 → planOf v ≡ only v (v .thread)
 unfolding planOf rows row0

@@ -1,28 +1,28 @@
 // The calls on a state: fresh, begin, step and counted steps. Each leaves the state as it came where it refuses.
-use crate::answer::Begin;
-use crate::answer::BeginReply;
-use crate::answer::Fresh;
-use crate::answer::FreshReply;
-use crate::answer::Step;
-use crate::answer::StepReply;
 use crate::phase;
 use crate::place;
 use crate::range;
 use crate::ready;
 use crate::register;
-use crate::row::Plan;
-use crate::state::Body;
-use crate::state::Lock;
-use crate::state::Place;
-use crate::state::Settings;
-use crate::state::State;
-use crate::state::Thread;
 use crate::view;
+use rules::answer::Begin;
+use rules::answer::BeginReply;
+use rules::answer::Fresh;
+use rules::answer::FreshReply;
+use rules::answer::Step;
+use rules::answer::StepReply;
+use rules::row::Plan;
+use rules::state::Body;
+use rules::state::Lock;
+use rules::state::Place;
+use rules::state::Settings;
+use rules::state::State;
+use rules::state::Thread;
 ghost use mathlib.Core.Path.{_≡_};
 ghost use mathlib.Core.Bool.{true};
 ghost use Prim.Native.Nat.{_<_, _≤_};
-ghost use Rattle.machine.specs.State.{unmade};
-ghost use Rattle.machine.specs.Step.{zeroSettings, freshOf, begun, beginOf, after, stepOf};
+ghost use Rattle.rules.specs.State.{unmade};
+ghost use Rattle.rules.specs.Step.{zeroSettings, freshOf, begun, beginOf, after, stepOf};
 
 // A place that is not made.
 fn unmade() -> Place
@@ -40,7 +40,7 @@ fn unmade() -> Place
 
 // The fresh state of a run.
 fn fresh_state(c: Settings) -> State
-    ensures { λ r. ⌜ r ≡ Rattle.machine.specs.State.fresh c ⌝ }
+    ensures { λ r. ⌜ r ≡ Rattle.rules.specs.State.fresh c ⌝ }
 {
     let first = place::new_node(Body::Base { keys: 0 });
     let none = unmade();
@@ -88,7 +88,7 @@ pub fn fresh(succ: u32, fail: u32, low: u32, max: u32) -> Fresh
 }
 
 fn refused_begin(s: State, number: u8) -> Begin
-    ensures { λ r. ⌜ r ≡ Rattle.machine.specs.Step.refusedBegin s number ⌝ }
+    ensures { λ r. ⌜ r ≡ Rattle.rules.specs.Step.refusedBegin s number ⌝ }
 {
     Begin {
         reply: BeginReply::Refused { number },
@@ -143,7 +143,7 @@ pub fn begin(s: State, t: u32, o: u32, k: u32) -> Begin
 }
 
 fn refused_step(s: State, number: u8) -> Step
-    ensures { λ r. ⌜ r ≡ Rattle.machine.specs.Step.refusedStep s number ⌝ }
+    ensures { λ r. ⌜ r ≡ Rattle.rules.specs.Step.refusedStep s number ⌝ }
 {
     Step {
         reply: StepReply::Refused { number },
@@ -153,7 +153,7 @@ fn refused_step(s: State, number: u8) -> Step
 
 // What a step answers: the phase that it goes to, or how the operation ends.
 fn reply_of(t: Thread, p: Plan) -> StepReply
-    ensures { λ r. ⌜ r ≡ Rattle.machine.specs.Step.replyFrom t p ⌝ }
+    ensures { λ r. ⌜ r ≡ Rattle.rules.specs.Step.replyFrom t p ⌝ }
 {
     if t.phase == 25 {
         return StepReply::Ends {

@@ -2,16 +2,16 @@
 use crate::place;
 use crate::plan;
 use crate::register;
-use crate::row::Plan;
-use crate::row::View;
-use crate::state::Place;
+use rules::row::Plan;
+use rules::row::View;
+use rules::state::Place;
 ghost use mathlib.Core.Path.{_≡_};
 ghost use Prim.Native.Nat.{_+_, _<_};
 ghost use lib.Dec.{ltb};
 ghost use Rattle.keys.specs.Keys.{size};
-ghost use Rattle.machine.specs.State.{zeroStatistics};
-ghost use Rattle.machine.specs.Places.{answerOf, keysAfter};
-ghost use Rattle.machine.specs.Rows.{aboveMax, belowMin, keysThen, commits, decides};
+ghost use Rattle.rules.specs.State.{zeroStatistics};
+ghost use Rattle.rules.specs.Places.{answerOf, keysAfter};
+ghost use Rattle.rules.specs.Rows.{aboveMax, belowMin, keysThen, commits, decides};
 
 // The answer of operation `o` on a key that is or is not present.
 fn answer_of(o: u8, present: bool) -> u8

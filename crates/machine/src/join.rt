@@ -4,10 +4,10 @@ use crate::neighbour;
 use crate::place;
 use crate::plan;
 use crate::register;
-use crate::row::Plan;
-use crate::row::View;
+use rules::row::Plan;
+use rules::row::View;
 ghost use mathlib.Core.Path.{_≡_};
-ghost use Rattle.machine.specs.Rows.{farChild, towardsPrev, row15, row16, row17, row18, row19, row20, row21, row22, row23, row24, row25};
+ghost use Rattle.rules.specs.Rows.{farChild, towardsPrev, row15, row16, row17, row18, row19, row20, row21, row22, row23, row24, row25};
 
 // P's far child by the kept side.
 fn far_child(v: View) -> u8

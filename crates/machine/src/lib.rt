@@ -1,9 +1,7 @@
 // The lock-based contention adapting search tree, one step at a time.
-pub mod answer;
 pub mod calls;
 mod commit;
 mod join;
-pub mod list;
 pub mod lock;
 mod neighbour;
 mod phase;
@@ -12,8 +10,6 @@ mod plan;
 pub mod range;
 mod ready;
 mod register;
-pub mod row;
 mod search;
 mod split;
-pub mod state;
 mod view;

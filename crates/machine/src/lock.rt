@@ -1,10 +1,10 @@
 // The two lock rules, on the lock record.
-use crate::state::Lock;
-use crate::state::Settings;
+use rules::state::Lock;
+use rules::state::Settings;
 ghost use mathlib.Core.Path.{_≡_};
 ghost use Prim.Native.Nat.{_+_, _-_, min};
-ghost use Rattle.machine.specs.State.{topStatistics};
-ghost use Rattle.machine.specs.Places.{tried, taken3, taken4, released, zeroed};
+ghost use Rattle.rules.specs.State.{topStatistics};
+ghost use Rattle.rules.specs.Places.{tried, taken3, taken4, released, zeroed};
 
 // A taking that changes no statistics: a try on a neighbour, and route locks.
 pub fn try_lock(me: u8, l: Lock) -> Lock

@@ -3,12 +3,12 @@ use crate::lock;
 use crate::place;
 use crate::plan;
 use crate::register;
-use crate::row::Plan;
-use crate::row::View;
-use crate::state::Body;
+use rules::row::Plan;
+use rules::row::View;
+use rules::state::Body;
 ghost use mathlib.Core.Path.{_≡_};
 ghost use Prim.Native.Nat.{_≤_};
-ghost use Rattle.machine.specs.Rows.{farSide, nearChild, row9, row10, row11, noJoin, join, row12, row13, row14};
+ghost use Rattle.rules.specs.Rows.{farSide, nearChild, row9, row10, row11, noJoin, join, row12, row13, row14};
 
 // Far is right if B is P's left child, else left.
 pub(crate) fn far_side(v: View) -> bool

@@ -4,15 +4,15 @@ use crate::join;
 use crate::neighbour;
 use crate::place;
 use crate::plan;
-use crate::row::Plan;
-use crate::row::View;
 use crate::search;
 use crate::split;
+use rules::row::Plan;
+use rules::row::View;
 ghost use mathlib.Core.Path.{_≡_};
 ghost use mathlib.Core.Bool.{true, false};
 ghost use Prim.Native.Nat.{_≤_, _<_};
-ghost use Rattle.machine.specs.Rows.{planOf, stuck};
-ghost use Rattle.machine.specs.Step.{nextOf};
+ghost use Rattle.rules.specs.Rows.{planOf, stuck};
+ghost use Rattle.rules.specs.Step.{nextOf};
 
 // The node that the rows at 1, 2, 9, 10 and 22 go to or ask for.
 pub(crate) fn next(v: View) -> u8

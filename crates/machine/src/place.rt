@@ -1,11 +1,11 @@
 // What rows ask of a place, and what they do to one.
 use crate::lock;
-use crate::state::Body;
-use crate::state::Lock;
-use crate::state::Place;
+use rules::state::Body;
+use rules::state::Lock;
+use rules::state::Place;
 ghost use mathlib.Core.Path.{_≡_};
-ghost use Rattle.machine.specs.State.{newNode};
-ghost use Rattle.machine.specs.Places.{isRoute, keysOf, routeKey, childOn, childBy, swapBody, takesPlace, isFree, withLock, release, zero, invalid, withKeys};
+ghost use Rattle.rules.specs.State.{newNode};
+ghost use Rattle.rules.specs.Places.{isRoute, keysOf, routeKey, childOn, childBy, swapBody, takesPlace, isFree, withLock, release, zero, invalid, withKeys};
 
 pub(crate) fn is_route(p: Place) -> bool
     ensures { λ r. ⌜ r ≡ isRoute p ⌝ }

@@ -1,19 +1,19 @@
 // What a row changes, put together.
 use crate::place;
 use crate::register;
-use crate::row::Plan;
-use crate::row::Store;
-use crate::row::View;
-use crate::state::Body;
-use crate::state::Lock;
-use crate::state::Place;
-use crate::state::Thread;
+use rules::row::Plan;
+use rules::row::Store;
+use rules::row::View;
+use rules::state::Body;
+use rules::state::Lock;
+use rules::state::Place;
+use rules::state::Thread;
 ghost use mathlib.Core.Path.{_≡_};
-ghost use Rattle.machine.specs.Rows.{noStore, stores3, stores2, stores1, only, goes, hangs, searches, seeks};
+ghost use Rattle.rules.specs.Rows.{noStore, stores3, stores2, stores1, only, goes, hangs, searches, seeks};
 
 // A place to be stored.
 pub(crate) fn at(n: u8, p: Place) -> Store
-    ensures { λ r. ⌜ r ≡ Rattle.machine.specs.Rows.at n p ⌝ }
+    ensures { λ r. ⌜ r ≡ Rattle.rules.specs.Rows.at n p ⌝ }
 {
     Store { at: n, place: p }
 }

@@ -1,11 +1,11 @@
 // The range test: every number inside document 01's limits.
-use crate::state::Body;
-use crate::state::Place;
-use crate::state::Settings;
-use crate::state::State;
-use crate::state::Thread;
+use rules::state::Body;
+use rules::state::Place;
+use rules::state::Settings;
+use rules::state::State;
+use rules::state::Thread;
 ghost use mathlib.Core.Path.{_≡_};
-ghost use Rattle.machine.specs.Range.{settingsInRange, bodyInRange, placeInRange, registerInRange, registersInRange, threadInRange, placesInRange, threadsInRange, countsInRange, inRange};
+ghost use Rattle.rules.specs.Range.{settingsInRange, bodyInRange, placeInRange, registerInRange, registersInRange, threadInRange, placesInRange, threadsInRange, countsInRange, inRange};
 
 pub fn settings_in_range(c: Settings) -> bool
     ensures { λ r. ⌜ r ≡ settingsInRange c ⌝ }

@@ -1,15 +1,15 @@
 // Whether the step of a thread has what its row needs: a step that has not is stuck.
 use crate::commit;
 use crate::place;
-use crate::row::View;
-use crate::state::Place;
+use rules::row::View;
+use rules::state::Place;
 ghost use mathlib.Core.Path.{_≡_};
 ghost use Prim.Native.Nat.{_≤_};
 ghost use lib.Dec.{leb};
 ghost use lib.ListN.{getD};
 ghost use Rattle.keys.specs.Keys.{size};
-ghost use Rattle.machine.specs.Places.{isBase, keysOf};
-ghost use Rattle.machine.specs.Rows.{route, base, maybeRoute, routeP, routeG, routeWalk, baseB, baseN, noneOrP, noneOrG, commitable, needs, idle, stuck};
+ghost use Rattle.rules.specs.Places.{isBase, keysOf};
+ghost use Rattle.rules.specs.Rows.{route, base, maybeRoute, routeP, routeG, routeWalk, baseB, baseN, noneOrP, noneOrG, commitable, needs, idle, stuck};
 
 // Register `n`, whose place is `p`, names a route.
 fn route(n: u8, p: Place) -> bool

@@ -1,8 +1,8 @@
 // A thread with one register set.
-use crate::state::Thread;
+use rules::state::Thread;
 ghost use mathlib.Core.Path.{_≡_};
-ghost use Rattle.machine.specs.State.{freshThread};
-ghost use Rattle.machine.specs.Registers.{atPhase, setPrev, setBase, setWalk, setNeighbour, setGrandparent, setMade, setSide, setOperation, setAnswer};
+ghost use Rattle.rules.specs.State.{freshThread};
+ghost use Rattle.rules.specs.Registers.{atPhase, setPrev, setBase, setWalk, setNeighbour, setGrandparent, setMade, setSide, setOperation, setAnswer};
 
 pub(crate) fn at_phase(p: u8, t: Thread) -> Thread
     ensures { λ r. ⌜ r ≡ atPhase p t ⌝ }

@@ -4,12 +4,12 @@ use crate::lock;
 use crate::place;
 use crate::plan;
 use crate::register;
-use crate::row::Plan;
-use crate::row::View;
+use rules::row::Plan;
+use rules::row::View;
 ghost use mathlib.Core.Path.{_≡_};
 ghost use mathlib.Core.Bool.{true};
 ghost use Prim.Native.Nat.{_<_};
-ghost use Rattle.machine.specs.Rows.{row1, row2, row3, row4, row5};
+ghost use Rattle.rules.specs.Rows.{row1, row2, row3, row4, row5};
 
 // Prev none, walk = root.
 pub(crate) fn row_1(v: View) -> Plan

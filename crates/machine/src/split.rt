@@ -2,12 +2,12 @@
 use crate::place;
 use crate::plan;
 use crate::register;
-use crate::row::Plan;
-use crate::row::View;
-use crate::state::Body;
+use rules::row::Plan;
+use rules::row::View;
+use rules::state::Body;
 ghost use mathlib.Core.Path.{_≡_};
 ghost use Prim.Native.Nat.{_≤_};
-ghost use Rattle.machine.specs.Rows.{noSplit, split, row6, row7, row8};
+ghost use Rattle.rules.specs.Rows.{noSplit, split, row6, row7, row8};
 
 // Fewer than 3 places: B's statistics 0.
 fn no_split(v: View) -> Plan

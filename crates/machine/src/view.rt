@@ -1,16 +1,16 @@
 // From the state to what a step reads, and from its plan back to the state.
 use crate::phase;
-use crate::row::Plan;
-use crate::row::Store;
-use crate::row::View;
-use crate::state::Body;
-use crate::state::Lock;
-use crate::state::Place;
-use crate::state::State;
+use rules::row::Plan;
+use rules::row::Store;
+use rules::row::View;
+use rules::state::Body;
+use rules::state::Lock;
+use rules::state::Place;
+use rules::state::State;
 ghost use mathlib.Core.Path.{_≡_};
 ghost use Prim.Native.Nat.{_<_};
-ghost use Rattle.machine.specs.State.{zeroPlace, placeAt};
-ghost use Rattle.machine.specs.Step.{viewBefore, viewOf, put, apply};
+ghost use Rattle.rules.specs.State.{zeroPlace, placeAt};
+ghost use Rattle.rules.specs.Step.{viewBefore, viewOf, put, apply};
 
 // What an index past the end reads, and what no row looks at.
 fn zero_place() -> Place

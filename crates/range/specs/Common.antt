@@ -11,13 +11,13 @@ use Rattle.range.specs.Tests.{pick}
 use Rattle.range.specs.Facts.{PlaceOk, RegisterOk, registersOf, ThreadOk}
 use Rattle.range.specs.Plans.{ViewOk, PlanOk}
 use Rattle.range.specs.Pieces.{phase-ok, base-ok, walk-ok, zero-place-ok, takes-ok}
-use Rattle.machine.specs.State.{none, zeroPlace}
-use Rattle.machine.specs.Places.{isRoute}
-use Rattle.machine.specs.Rows.{stores3, stores1, only, goes, hangs, searches, seeks}
-use Rattle.machine.specs.declared.state.Place.{Place}
-use Rattle.machine.specs.declared.state.Thread.{Thread}
-use Rattle.machine.specs.declared.row.View.{View}
-use Rattle.machine.specs.declared.row.Store.{Store}
+use Rattle.rules.specs.State.{none, zeroPlace}
+use Rattle.rules.specs.Places.{isRoute}
+use Rattle.rules.specs.Rows.{stores3, stores1, only, goes, hangs, searches, seeks}
+use Rattle.rules.specs.declared.state.Place.{Place}
+use Rattle.rules.specs.declared.state.Thread.{Thread}
+use Rattle.rules.specs.declared.row.View.{View}
+use Rattle.rules.specs.declared.row.Store.{Store}
 
 -- a register that names a node names a made one
 pub named : (m r : ℕ) → RegisterOk m r → ltb r none ≡ true → r < m
@@ -25,17 +25,28 @@ named m r (inl e) h = let l = ltb-true r none h in absurd (omega arith)
 named m r (inr l) h = l
 
 module _ (v : View) (f : ViewOk v) where
-  -- ---- what rows have in common
-
   -- register i of the thread, in the order of the state: prev, base, walk, neighbour, grandparent, made
   pub reg : (i : ℕ) → RegisterOk (v .made) (getD (registersOf (v .thread)) i none)
   reg = f .thread .registers
 
+  -- a store that stores nothing
   pub nothing : PlaceOk (v .made) zeroPlace
   nothing = zero-place-ok (v .made)
 
-  pub stores3-ok : {t : Thread} {a b c : Store} → ThreadOk (v .made) t → PlaceOk (v .made) (a .place) → PlaceOk (v .made) (b .place) → PlaceOk (v .made) (c .place) → PlanOk v (stores3 v t a b c)
-  stores3-ok h a b c = record { thread = h; root = f .root; made = omega arith; most = f .most; committed = f .committed; first = a; second = b; third = c }
+  -- three places, one, none; the phase alone
+  pub stores3-ok : {t : Thread} {a b c : Store} → ThreadOk (v .made) t → PlaceOk (v .made) (a .place) → PlaceOk (v .made) (b .place)
+      → PlaceOk (v .made) (c .place) → PlanOk v (stores3 v t a b c)
+  stores3-ok h a b c =
+      record {
+        thread = h;
+        root = f .root;
+        made = omega arith;
+        most = f .most;
+        committed = f .committed;
+        first = a;
+        second = b;
+        third = c;
+      }
 
   pub stores1-ok : {t : Thread} {a : Store} → ThreadOk (v .made) t → PlaceOk (v .made) (a .place) → PlanOk v (stores1 v t a)
   stores1-ok h a = stores3-ok h a nothing nothing
@@ -46,7 +57,9 @@ module _ (v : View) (f : ViewOk v) where
   pub goes-ok : (p : ℕ) → T (leb p 25) → PlanOk v (goes v p)
   goes-ok p l = only-ok (phase-ok p l (f .thread))
 
-  pub hangs-ok : {t : Thread} {q : Place} (new x y : ℕ) → ThreadOk (v .made) t → new < v .made → PlaceOk (v .made) q → PlanOk v (hangs v t new x y q)
+  -- a made node takes the place of another, or is the root
+  pub hangs-ok : {t : Thread} {q : Place} (new x y : ℕ) → ThreadOk (v .made) t → new < v .made → PlaceOk (v .made) q
+      → PlanOk v (hangs v t new x y q)
   unfolding hangs
   hangs-ok new x y h l q =
       record {
@@ -60,6 +73,7 @@ module _ (v : View) (f : ViewOk v) where
         third = nothing;
       }
 
+  -- walk is a made node or none
   pub searches-ok : {t : Thread} (w : ℕ) → RegisterOk (v .made) w → ThreadOk (v .made) t → PlanOk v (searches v t w)
   unfolding searches
   searches-ok w r h =

@@ -1,30 +1,24 @@
--- "A state is in range": the tests of the range as facts, for every state record that the machine's types allow.
-use mathlib.Core.Bool.{Bool, true, false, true≢false, or-true}
+-- "A state is in range": the tests of the range as facts.
+use mathlib.Core.Bool.{Bool, true, false, cond, true≢false, or-true}
 use mathlib.Core.List.{List, [], _∷_, map}
 use mathlib.Core.Logic.{_⊎_, inl, inr, ⊎-map}
 use mathlib.Core.Path.{_≡_, refl, sym}
-use Prim.Native.Nat.{ℕ, suc, _≤_, _<_, _^_}
+use Prim.Native.Nat.{ℕ, suc, _≤_, _<_}
 use native.Mathlib.Omega.{arith}
 use borrow.Author.Tests.{leb-true, ltb-true, eqb-true, le-leb, lt-ltb, eq-eqb}
 use lib.Dec.{leb, ltb, eqb}
-use lib.ListN.{length, getD}
+use lib.ListN.{getD}
 use Rattle.range.specs.Tests.{Hold, hold, each, both, either, pick}
-use Rattle.machine.specs.State.{none, nobody, topStatistics, zeroPlace, zeroThread, threadAt}
-use Rattle.machine.specs.Places.{isRouteBody, keysOf, keysOfBody, routeKeyOfBody, childOnBody}
-use Rattle.machine.specs.Range.{settingsInRange, bodyInRange, placeInRange, registerInRange, registersInRange, threadInRange, placesInRange, threadsInRange, countsInRange, inRange}
-use Rattle.machine.specs.declared.state.Settings.{Settings}
-use Rattle.machine.specs.declared.state.Lock.{Lock}
-use Rattle.machine.specs.declared.state.Body.{Body}
-use Rattle.machine.specs.declared.state.Body.the-variants.{Base, Route}
-use Rattle.machine.specs.declared.state.Place.{Place}
-use Rattle.machine.specs.declared.state.Thread.{Thread}
-use Rattle.machine.specs.declared.state.State.{State}
-
--- what the machine's types say of any state record: 128 places, 8 threads, and in each base a set of keys
-pub record Whole (s : State) : Type 0 where
-  pub places : length (s .places) ≡ 128
-  pub threads : length (s .threads) ≡ 8
-  pub keys : (n : ℕ) → keysOf (getD (s .places) n zeroPlace) < 2 ^ 64
+use Rattle.rules.specs.State.{none, nobody, topStatistics, zeroPlace, zeroThread, threadAt}
+use Rattle.rules.specs.Places.{isRouteBody, routeKeyOfBody, childOnBody}
+use Rattle.rules.specs.Range.{settingsInRange, bodyInRange, placeInRange, registerInRange, registersInRange, threadInRange, placesInRange, threadsInRange, countsInRange, inRange}
+use Rattle.rules.specs.declared.state.Settings.{Settings}
+use Rattle.rules.specs.declared.state.Lock.{Lock}
+use Rattle.rules.specs.declared.state.Body.{Body}
+use Rattle.rules.specs.declared.state.Body.the-variants.{Base, Route}
+use Rattle.rules.specs.declared.state.Place.{Place}
+use Rattle.rules.specs.declared.state.Thread.{Thread}
+use Rattle.rules.specs.declared.state.State.{State}
 
 -- "succ 0 to 1,000; fail 0 to 1,000; min −1,000,000 to 0; max 0 to 1,000,000"
 pub record SettingsOk (c : Settings) : Type 0 where
@@ -38,12 +32,12 @@ pub record LockOk (l : Lock) : Type 0 where
   pub holder : l .holder ≤ nobody
   pub statistics : l .statistics ≤ topStatistics
 
--- a set of keys; of a route a key 0 to 63 and children that are made nodes
+-- of a route a key 0 to 63 and children that are made nodes
 pub record BodyOk (made : ℕ) (b : Body) : Type 0 where
-  pub keys : keysOfBody b < 2 ^ 64
   pub key : routeKeyOfBody b ≤ 63
   pub child : (w : Bool) → isRouteBody b ≡ true → childOnBody w b < made
 
+-- a place: its lock and its body
 pub record PlaceOk (made : ℕ) (p : Place) : Type 0 where
   pub lock : LockOk (p .lock)
   pub body : BodyOk made (p .body)
@@ -64,6 +58,7 @@ pub record NumbersOk (t : Thread) : Type 0 where
 abbrev pub registersOf : Thread → List ℕ
 registersOf t = t .prev ∷ t .base ∷ t .walk ∷ t .neighbour ∷ t .grandparent ∷ t .made ∷ []
 
+-- a thread: its numbers and its registers
 pub record ThreadOk (made : ℕ) (t : Thread) : Type 0 where
   pub numbers : NumbersOk t
   pub registers : (i : ℕ) → RegisterOk made (getD (registersOf t) i none)
@@ -76,16 +71,14 @@ pub record CountsOk (s : State) : Type 0 where
   pub committed : s .committed ≤ s .begun
   pub root : s .root < s .made
 
--- a whole state that is in range
+-- a state in range; an index past the end reads a record of zeros, which is in range too
 pub record InRange (s : State) : Type 0 where
   pub settings : SettingsOk (s .settings)
   pub counts : CountsOk s
   pub places : (n : ℕ) → PlaceOk (s .made) (getD (s .places) n zeroPlace)
   pub threads : (t : ℕ) → ThreadOk (s .made) (threadAt s t)
-  pub placeCount : length (s .places) ≡ 128
-  pub threadCount : length (s .threads) ≡ 8
 
--- ---- from the tests to the facts
+-- ---- from the tests to the facts: one lemma a test of the range
 
 pub settings-facts : (c : Settings) → settingsInRange c ≡ true → SettingsOk c
 unfolding settingsInRange
@@ -95,21 +88,23 @@ settings-facts c h =
 counts-facts : (s : State) → countsInRange s ≡ true → CountsOk s
 unfolding countsInRange
 counts-facts s h =
-    let f = hold (leb 1 (s .made)) (leb (s .made) 128 ∷ leb (s .begun) 1000000 ∷ leb (s .committed) (s .begun) ∷ ltb (s .root) (s .made) ∷ []) h in
+    let rest = leb (s .made) 128 ∷ leb (s .begun) 1000000 ∷ leb (s .committed) (s .begun) ∷ ltb (s .root) (s .made) ∷ [] in
+    let f = hold (leb 1 (s .made)) rest h in
     omega (arith, leb-true, ltb-true)
 
-body-facts : (made : ℕ) (b : Body) → keysOfBody b < 2 ^ 64 → bodyInRange made b ≡ true → BodyOk made b
+body-facts : (made : ℕ) (b : Body) → bodyInRange made b ≡ true → BodyOk made b
 unfolding bodyInRange
-body-facts made (Base ks) l h = record { keys = l; key = omega arith; child = λ w e. absurd (true≢false (sym e)) }
-body-facts made (Route k l r) g h =
+body-facts made (Base ks) h = record { key = omega arith; child = λ w e. absurd (true≢false (sym e)) }
+body-facts made (Route k l r) h =
     let f = hold (leb k 63) (ltb l made ∷ ltb r made ∷ []) h in
-    record { keys = g; key = omega (arith, leb-true); child = λ w e. pick (λ (n : ℕ). n < made) w (omega (arith, ltb-true)) (omega (arith, ltb-true)) }
+    let child : (w : Bool) → cond w r l < made = λ w. pick (λ (n : ℕ). n < made) w (omega (arith, ltb-true)) (omega (arith, ltb-true)) in
+    record { key = omega (arith, leb-true); child = λ w e. child w }
 
-pub place-facts : (made : ℕ) (p : Place) → keysOf p < 2 ^ 64 → placeInRange made p ≡ true → PlaceOk made p
+pub place-facts : (made : ℕ) (p : Place) → placeInRange made p ≡ true → PlaceOk made p
 unfolding placeInRange
-place-facts made p l h =
+place-facts made p h =
     let f = hold (leb (p .lock .holder) nobody) (leb (p .lock .statistics) topStatistics ∷ bodyInRange made (p .body) ∷ []) h in
-    record { lock = omega (arith, leb-true); body = body-facts made (p .body) l (f .1 .1 .0) }
+    record { lock = omega (arith, leb-true); body = body-facts made (p .body) (f .1 .1 .0) }
 
 register-facts : (made r : ℕ) → registerInRange made r ≡ true → RegisterOk made r
 unfolding registerInRange
@@ -118,11 +113,14 @@ register-facts made r h = ⊎-map (eqb-true r none) (ltb-true r made) (either (e
 pub thread-facts : (made : ℕ) (t : Thread) → threadInRange made t ≡ true → ThreadOk made t
 unfolding threadInRange registersInRange registerInRange
 thread-facts made t h =
-    let f = hold (leb (t .phase) 25) (leb (t .operation) 2 ∷ leb (t .key) 63 ∷ leb (t .answer) 1 ∷ leb (t .commit) 1000000 ∷ registersInRange made t ∷ []) h in
+    let numbers = leb (t .operation) 2 ∷ leb (t .key) 63 ∷ leb (t .answer) 1 ∷ leb (t .commit) 1000000 ∷ registersInRange made t ∷ [] in
+    let f = hold (leb (t .phase) 25) numbers h in
     let ok = registerInRange made in
-    let g = hold (ok (t .prev)) (ok (t .base) ∷ ok (t .walk) ∷ ok (t .neighbour) ∷ ok (t .grandparent) ∷ ok (t .made) ∷ []) (f .1 .1 .1 .1 .1 .0) in
+    let rest = ok (t .base) ∷ ok (t .walk) ∷ ok (t .neighbour) ∷ ok (t .grandparent) ∷ ok (t .made) ∷ [] in
+    let g = hold (ok (t .prev)) rest (f .1 .1 .1 .1 .1 .0) in
     record { numbers = omega (arith, leb-true); registers = λ i. register-facts made _ (each ok (registersOf t) none g refl i) }
 
+-- each place, each thread passes its test
 places-hold : (made : ℕ) (ps : List Place) → placesInRange made ps ≡ true → Hold (map (placeInRange made) ps)
 unfolding placesInRange
 places-hold made [] h = tt
@@ -141,26 +139,26 @@ unfolding placeInRange bodyInRange
 zero-place made = refl
 
 zero-thread : (made : ℕ) → 1 ≤ made → threadInRange made zeroThread ≡ true
-unfolding threadInRange registersInRange registerInRange zeroThread
+unfolding threadInRange registersInRange registerInRange
 zero-thread made l = simp (lt-ltb 0 made l)
 
 -- the range test as facts
-pub facts : (s : State) → Whole s → inRange s ≡ true → InRange s
+pub facts : (s : State) → inRange s ≡ true → InRange s
 unfolding inRange threadAt
-facts s w h =
+facts s h =
     let made = s .made in
     let f = hold (settingsInRange (s .settings)) (countsInRange s ∷ placesInRange made (s .places) ∷ threadsInRange made (s .threads) ∷ []) h in
     let c = counts-facts s (f .1 .0) in
+    let p = each (placeInRange made) (s .places) zeroPlace (places-hold made (s .places) (f .1 .1 .0)) (zero-place made) in
+    let q = each (threadInRange made) (s .threads) zeroThread (threads-hold made (s .threads) (f .1 .1 .1 .0)) (zero-thread made (c .some)) in
     record {
       settings = settings-facts (s .settings) (f .0);
       counts = c;
-      places = λ n. place-facts made (getD (s .places) n zeroPlace) (w .keys n) (each (placeInRange made) (s .places) zeroPlace (places-hold made (s .places) (f .1 .1 .0)) (zero-place made) n);
-      threads = λ t. thread-facts made (threadAt s t) (each (threadInRange made) (s .threads) zeroThread (threads-hold made (s .threads) (f .1 .1 .1 .0)) (zero-thread made (c .some)) t);
-      placeCount = w .places;
-      threadCount = w .threads;
+      places = λ n. place-facts made (getD (s .places) n zeroPlace) (p n);
+      threads = λ t. thread-facts made (threadAt s t) (q t);
     }
 
--- ---- from the facts to the tests
+-- ---- from the facts to the tests: one lemma a test again
 
 settings-test : (c : Settings) → SettingsOk c → settingsInRange c ≡ true
 unfolding settingsInRange
@@ -180,7 +178,8 @@ places-test : (made : ℕ) (ps : List Place) → ((n : ℕ) → PlaceOk made (ge
 unfolding placesInRange placeInRange
 places-test made [] f = refl
 places-test made (p ∷ ps) f =
-    simp (le-leb _ _ (f 0 .lock .holder), le-leb _ _ (f 0 .lock .statistics), body-test made (p .body) (f 0 .body), places-test made ps (λ n. f (suc n)))
+    let l = f 0 .lock in
+    simp (le-leb _ _ (l .holder), le-leb _ _ (l .statistics), body-test made (p .body) (f 0 .body), places-test made ps (λ n. f (suc n)))
 
 register-test : (made r : ℕ) → RegisterOk made r → registerInRange made r ≡ true
 unfolding registerInRange
@@ -192,18 +191,18 @@ unfolding threadInRange registersInRange
 thread-test made t f =
     let n = f .numbers in
     let r : (i : ℕ) → registerInRange made (getD (registersOf t) i none) ≡ true = λ i. register-test made _ (f .registers i) in
-    simp (le-leb _ _ (n .phase), le-leb _ _ (n .operation), le-leb _ _ (n .key), le-leb _ _ (n .answer), le-leb _ _ (n .commit), r 0, r 1, r 2, r 3, r 4, r 5)
+    let small = le-leb _ _ (n .commit) in
+    simp (le-leb _ _ (n .phase), le-leb _ _ (n .operation), le-leb _ _ (n .key), le-leb _ _ (n .answer), small, r 0, r 1, r 2, r 3, r 4, r 5)
 
 threads-test : (made : ℕ) (ts : List Thread) → ((t : ℕ) → ThreadOk made (getD ts t zeroThread)) → threadsInRange made ts ≡ true
 unfolding threadsInRange
 threads-test made [] f = refl
 threads-test made (t ∷ ts) f = simp (thread-test made t (f 0), threads-test made ts (λ n. f (suc n)))
 
--- the facts as the range test, and the state is whole
+-- the facts as the range test
 pub in-range : (s : State) → InRange s → inRange s ≡ true
 unfolding inRange threadAt
 in-range s f =
-    simp (settings-test _ (f .settings), counts-test s (f .counts), places-test (s .made) (s .places) (f .places), threads-test (s .made) (s .threads) (f .threads))
-
-pub whole : {s : State} → InRange s → Whole s
-whole f = record { places = f .placeCount; threads = f .threadCount; keys = λ n. f .places n .body .keys }
+    let p = places-test (s .made) (s .places) (f .places) in
+    let t = threads-test (s .made) (s .threads) (f .threads) in
+    simp (settings-test _ (f .settings), counts-test s (f .counts), p, t)

@@ -6,17 +6,16 @@ use Prim.Native.Nat.{ℕ, _+_, _≤_}
 use native.Mathlib.Omega.{arith}
 use borrow.Author.Tests.{ltb-false}
 use lib.Dec.{T, eqb, leb, ltb}
-use Rattle.keys.specs.Laws.{union-lt}
 use Rattle.range.specs.Tests.{pick, both}
 use Rattle.range.specs.Facts.{PlaceOk, ThreadOk}
 use Rattle.range.specs.Plans.{ViewOk, PlanOk, thread-more}
 use Rattle.range.specs.Pieces.{phase-ok, walk-ok, neighbour-ok, grandparent-ok, made-ok, side-ok, zero-place-ok, base-body-ok, new-ok, tried-ok, release-ok, zero-ok, invalid-ok, child-ok}
 use Rattle.range.specs.Common.{named, reg, nothing, stores3-ok, stores1-ok, only-ok, goes-ok, hangs-ok, seeks-ok}
-use Rattle.machine.specs.State.{none}
-use Rattle.machine.specs.Places.{isRoute, isBase, isFree, childOn}
-use Rattle.machine.specs.Rows.{farSide, farChild, nearChild, noJoin, join, towardsPrev, base, maybeRoute, routeP, baseN, noneOrG, row9, row10, row11, row12, row13, row14, row15, row16, row17, row18, row19, row20, row21, row22, row23, row24}
-use Rattle.machine.specs.declared.row.View.{View}
-use Rattle.machine.specs.declared.row.Store.{Store}
+use Rattle.rules.specs.State.{none}
+use Rattle.rules.specs.Places.{isRoute, isBase, isFree, childOn}
+use Rattle.rules.specs.Rows.{farSide, farChild, nearChild, noJoin, join, towardsPrev, base, maybeRoute, routeP, baseN, noneOrG, row9, row10, row11, row12, row13, row14, row15, row16, row17, row18, row19, row20, row21, row22, row23, row24}
+use Rattle.rules.specs.declared.row.View.{View}
+use Rattle.rules.specs.declared.row.Store.{Store}
 
 module _ (v : View) (f : ViewOk v) where
   pub row9-ok : PlanOk v (row9 v)
@@ -34,6 +33,7 @@ module _ (v : View) (f : ViewOk v) where
       pick (PlanOk v) (isFree (v .walk)) (stores1-ok v f (phase-ok 12 tt t) (tried-ok (v .me) (f .me) (f .walk)))
       (stores1-ok v f (phase-ok 25 tt t) (zero-ok (f .base)))
 
+  -- one new node
   join-ok : v .made ≤ 127 → PlanOk v (join v)
   unfolding join
   join-ok l =
@@ -44,11 +44,12 @@ module _ (v : View) (f : ViewOk v) where
         made = omega arith;
         most = omega arith;
         committed = f .committed;
-        first = new-ok (base-body-ok (v .made + 1) _ (union-lt _ _ (f .base .body .keys) (f .neighbour .body .keys)));
+        first = new-ok (base-body-ok (v .made + 1) _);
         second = z;
         third = z;
       }
 
+  -- none: N released, then B
   noJoin-ok : PlanOk v (noJoin v)
   unfolding noJoin
   noJoin-ok =
@@ -103,13 +104,15 @@ module _ (v : View) (f : ViewOk v) where
   unfolding row19
   row19-ok h =
       let r = both (ltb (v .thread .prev) none) (isRoute (v .prev)) (both (routeP v) (noneOrG v) h .0) .1 in
-      hangs-ok v f (farChild v) (v .thread .prev) (v .thread .grandparent) (phase-ok 20 tt (f .thread)) (f .prev .body .child (v .thread .side) r) (f .grandparent)
+      let l = f .prev .body .child (v .thread .side) r in
+      hangs-ok v f (farChild v) (v .thread .prev) (v .thread .grandparent) (phase-ok 20 tt (f .thread)) l (f .grandparent)
 
   pub row20-ok : PlanOk v (row20 v)
   unfolding row20
   row20-ok =
+      let Q : Store → Type 0 = λ a. PlaceOk (v .made) (a .place) in
       stores3-ok v f (phase-ok 21 tt (f .thread)) (release-ok (f .prev))
-      (pick (λ (a : Store). PlaceOk (v .made) (a .place)) (eqb (v .thread .grandparent) none) (nothing v f) (release-ok (f .grandparent))) (nothing v f)
+      (pick Q (eqb (v .thread .grandparent) none) (nothing v f) (release-ok (f .grandparent))) (nothing v f)
 
   pub row21-ok : PlanOk v (row21 v)
   unfolding row21

@@ -7,19 +7,19 @@ use native.Mathlib.Omega.{arith}
 use borrow.Author.Tests.{ltb-true, ltb-false, leb-true}
 use lib.Dec.{T, eqb, leb, ltb}
 use Rattle.keys.specs.Keys.{has, size}
-use Rattle.keys.specs.Laws.{below-lt, from-lt}
 use Rattle.keys.specs.Sizes.{split-small}
-use Rattle.range.specs.Tests.{pick, both}
+use Rattle.range.specs.Tests.{pick-by, pick, both}
 use Rattle.range.specs.Facts.{PlaceOk}
 use Rattle.range.specs.Plans.{ViewOk, PlanOk, thread-more}
-use Rattle.range.specs.Pieces.{phase-ok, prev-ok, made-ok, answer-ok, fresh-thread-ok, answer-small, base-body-ok, new-ok, taken3-ok, taken4-ok, release-ok, zero-ok, invalid-ok, keys-ok, keys-after-ok, child-ok}
+use Rattle.range.specs.Pieces.{phase-ok, prev-ok, made-ok, answer-ok, fresh-thread-ok, answer-small, base-body-ok, new-ok, taken3-ok, taken4-ok, release-ok, zero-ok, invalid-ok, keys-ok, child-ok}
 use Rattle.range.specs.Common.{named, reg, nothing, stores1-ok, only-ok, goes-ok, hangs-ok, searches-ok}
-use Rattle.machine.specs.State.{none}
-use Rattle.machine.specs.Registers.{atPhase}
-use Rattle.machine.specs.Places.{isRoute, isFree, keysOf, release, withKeys, answerOf}
-use Rattle.machine.specs.Rows.{at, stores1, aboveMax, belowMin, keysThen, commits, decides, noSplit, split, route, base, baseB, noneOrP, commitable, row0, row1, row2, row3, row4, row5, row6, row7, row8, row25}
-use Rattle.machine.specs.declared.state.Place.{Place}
-use Rattle.machine.specs.declared.row.View.{View}
+use Rattle.rules.specs.State.{none}
+use Rattle.rules.specs.Registers.{atPhase}
+use Rattle.rules.specs.Places.{isRoute, isFree, keysOf, release, withKeys, answerOf}
+use Rattle.rules.specs.Rows.{at, stores1, aboveMax, belowMin, keysThen, commits, decides, noSplit, split, route, base, baseB, noneOrP, commitable, row0, row1, row2, row3, row4, row5, row6, row7, row8, row25}
+use Rattle.rules.specs.declared.state.Place.{Place}
+use Rattle.rules.specs.declared.row.View.{View}
+use Rattle.rules.specs.declared.row.Plan.{Plan}
 
 module _ (v : View) (f : ViewOk v) where
   pub row0-ok : PlanOk v (row0 v)
@@ -37,13 +37,16 @@ module _ (v : View) (f : ViewOk v) where
   pub row3-ok : PlanOk v (row3 v)
   unfolding row3
   row3-ok =
-      pick (PlanOk v) (isFree (v .base)) (stores1-ok v f (phase-ok 5 tt (f .thread)) (taken3-ok (v .me) (v .settings) (f .me) (f .base))) (goes-ok v f 4 tt)
+      let b = taken3-ok (v .me) (v .settings) (f .me) (f .base) in
+      pick (PlanOk v) (isFree (v .base)) (stores1-ok v f (phase-ok 5 tt (f .thread)) b) (goes-ok v f 4 tt)
 
   pub row4-ok : PlanOk v (row4 v)
   unfolding row4
   row4-ok =
-      pick (PlanOk v) (isFree (v .base)) (stores1-ok v f (phase-ok 5 tt (f .thread)) (taken4-ok (v .me) (v .settings) (f .me) (f .base))) (goes-ok v f 4 tt)
+      let b = taken4-ok (v .me) (v .settings) (f .me) (f .base) in
+      pick (PlanOk v) (isFree (v .base)) (stores1-ok v f (phase-ok 5 tt (f .thread)) b) (goes-ok v f 4 tt)
 
+  -- the commit
   commits-ok : (p : ℕ) (b : Place) → T (leb p 25) → v .committed < v .begun → PlaceOk (v .made) b → PlanOk v (commits v p b)
   unfolding commits
   commits-ok p b t l h =
@@ -60,6 +63,7 @@ module _ (v : View) (f : ViewOk v) where
         third = nothing v f;
       }
 
+  -- and the decision after it
   decides-ok : (b : Place) → v .committed < v .begun → PlaceOk (v .made) b → PlanOk v (decides v b)
   unfolding decides
   decides-ok b l h =
@@ -72,17 +76,20 @@ module _ (v : View) (f : ViewOk v) where
   unfolding row5
   row5-ok h = go (v .base .valid) (both (baseB v) (not (v .base .valid) || commitable v) h .1)
     where
-      go : (b : Bool) → (not b || commitable v) ≡ true → PlanOk v (cond b (decides v (withKeys (keysThen v) (v .base))) (stores1 v (atPhase 1 (v .thread)) (at (v .thread .base) (release (v .base)))))
+      invalidB : Plan
+      invalidB = stores1 v (atPhase 1 (v .thread)) (at (v .thread .base) (release (v .base)))
+
+      go : (b : Bool) → (not b || commitable v) ≡ true → PlanOk v (cond b (decides v (withKeys (keysThen v) (v .base))) invalidB)
       go true c =
           decides-ok _ (ltb-true _ _ (both (ltb (v .committed) (v .begun)) (aboveMax v || not (belowMin v) || noneOrP v) c .0))
-          (keys-ok (keysThen v) (keys-after-ok (v .thread .operation) _ (v .thread .key) (f .base .body .keys)) (f .base))
+          (keys-ok (keysThen v) (f .base))
       go false c = stores1-ok v f (phase-ok 1 tt (f .thread)) (release-ok (f .base))
 
+  -- three new nodes
   split-ok : v .made ≤ 125 → 1 ≤ size (keysOf (v .base)) → PlanOk v (split v)
   unfolding split
   split-ok l h =
       let m = v .made + 3 in
-      let ks = f .base .body .keys in
       let s = split-small (keysOf (v .base)) h in
       record {
         thread = phase-ok 7 tt (made-ok (v .made + 2) (inr (omega arith)) (thread-more (omega arith) (f .thread)));
@@ -90,19 +97,18 @@ module _ (v : View) (f : ViewOk v) where
         made = omega arith;
         most = omega arith;
         committed = f .committed;
-        first = new-ok (base-body-ok m _ (below-lt _ _ ks));
-        second = new-ok (base-body-ok m _ (from-lt _ _ ks));
-        third = new-ok (record { keys = omega arith; key = omega arith; child = λ w e. pick (λ (n : ℕ). n < m) w (omega arith) (omega arith) });
+        first = new-ok (base-body-ok m _);
+        second = new-ok (base-body-ok m _);
+        third = new-ok (record { key = omega arith; child = λ w e. pick (λ (n : ℕ). n < m) w (omega arith) (omega arith) });
       }
 
   pub row6-ok : (baseB v && leb 2 (size (keysOf (v .base)))) ≡ true → PlanOk v (row6 v)
   unfolding row6 noSplit
-  row6-ok h = go (ltb 125 (v .made)) refl
-    where
-      go : (b : Bool) → ltb 125 (v .made) ≡ b → PlanOk v (cond b (noSplit v) (split v))
-      go true e = stores1-ok v f (phase-ok 25 tt (f .thread)) (zero-ok (f .base))
-      go false e =
-          split-ok (ltb-false 125 (v .made) e) (omega (arith, leb-true 2 (size (keysOf (v .base))) (both (baseB v) (leb 2 (size (keysOf (v .base)))) h .1)))
+  row6-ok h =
+      let n = size (keysOf (v .base)) in
+      let l = leb-true 2 n (both (baseB v) (leb 2 n) h .1) in
+      pick-by (PlanOk v) (ltb 125 (v .made)) (λ e. stores1-ok v f (phase-ok 25 tt (f .thread)) (zero-ok (f .base)))
+      (λ e. split-ok (ltb-false 125 (v .made) e) (omega arith))
 
   pub row7-ok : (baseB v && noneOrP v && route (v .thread .made) (v .own)) ≡ true → PlanOk v (row7 v)
   unfolding row7

@@ -1,6 +1,9 @@
 pub mod Tests
+pub mod Lists
 pub mod Phase
+pub mod Calls
 pub mod Waits
+pub mod Whole
 pub mod Facts
 pub mod Plans
 pub mod Pieces

@@ -2,23 +2,23 @@
 use mathlib.Core.Bool.{Bool, true, false, true≢false}
 use mathlib.Core.Logic.{inl, inr}
 use mathlib.Core.Path.{_≡_, refl, sym}
-use Prim.Native.Nat.{ℕ, _≤_, _<_, _^_}
+use Prim.Native.Nat.{ℕ, _≤_, _<_}
 use native.Mathlib.Omega.{arith}
 use lib.Dec.{T, eqb, leb, lit≤}
-use Rattle.keys.specs.Laws.{with-lt, without-lt}
+use lib.ListN.{getD, set}
 use Rattle.range.specs.Tests.{pick}
 use Rattle.range.specs.Facts.{LockOk, BodyOk, PlaceOk, place-facts, RegisterOk, registersOf, ThreadOk, thread-facts}
-use Rattle.range.specs.Plans.{each-set}
-use Rattle.machine.specs.State.{none, freshThread, newNode, zeroPlace}
-use Rattle.machine.specs.Registers.{atPhase, setPrev, setBase, setWalk, setNeighbour, setGrandparent, setMade, setSide, setAnswer, setOperation}
-use Rattle.machine.specs.Places.{isRouteBody, childOnBody, childOn, swapBody, takesPlace, withLock, tried, taken3, taken4, released, zeroed, release, zero, invalid, withKeys, answerOf, keysAfter}
-use Rattle.machine.specs.Range.{bodyInRange, placeInRange, registerInRange, registersInRange, threadInRange}
-use Rattle.machine.specs.declared.state.Settings.{Settings}
-use Rattle.machine.specs.declared.state.Lock.{Lock}
-use Rattle.machine.specs.declared.state.Body.{Body}
-use Rattle.machine.specs.declared.state.Body.the-variants.{Base, Route}
-use Rattle.machine.specs.declared.state.Place.{Place}
-use Rattle.machine.specs.declared.state.Thread.{Thread}
+use Rattle.range.specs.Lists.{each-set}
+use Rattle.rules.specs.State.{none, freshThread, newNode, zeroPlace}
+use Rattle.rules.specs.Registers.{atPhase, setPrev, setBase, setWalk, setNeighbour, setGrandparent, setMade, setSide, setAnswer, setOperation}
+use Rattle.rules.specs.Places.{isRouteBody, childOnBody, childOn, swapBody, takesPlace, withLock, tried, taken3, taken4, released, zeroed, release, zero, invalid, withKeys, answerOf}
+use Rattle.rules.specs.Range.{bodyInRange, placeInRange, registerInRange, registersInRange, threadInRange}
+use Rattle.rules.specs.declared.state.Settings.{Settings}
+use Rattle.rules.specs.declared.state.Lock.{Lock}
+use Rattle.rules.specs.declared.state.Body.{Body}
+use Rattle.rules.specs.declared.state.Body.the-variants.{Base, Route}
+use Rattle.rules.specs.declared.state.Place.{Place}
+use Rattle.rules.specs.declared.state.Thread.{Thread}
 
 -- ---- a thread
 
@@ -27,25 +27,29 @@ module _ {m : ℕ} {t : Thread} where
   pub phase-ok : (p : ℕ) → T (leb p 25) → ThreadOk m t → ThreadOk m (atPhase p t)
   phase-ok p l f = let n = f .numbers in let b : p ≤ 25 = lit≤ l in record { numbers = omega arith; registers = f .registers }
 
-  -- a register, set to none or to a made node
+  -- a register, set to none or to a made node: register i in the order of the state
+  registers-ok : (i x : ℕ) → RegisterOk m x → ThreadOk m t → (j : ℕ) → RegisterOk m (getD (set (registersOf t) i x) j none)
+  registers-ok i x r f = each-set (RegisterOk m) (registersOf t) i x none r (f .registers)
+
   pub prev-ok : (x : ℕ) → RegisterOk m x → ThreadOk m t → ThreadOk m (setPrev x t)
-  prev-ok x r f = let n = f .numbers in record { numbers = omega arith; registers = each-set (RegisterOk m) (registersOf t) 0 x none r (f .registers) }
+  prev-ok x r f = let n = f .numbers in record { numbers = omega arith; registers = registers-ok 0 x r f }
 
   pub base-ok : (x : ℕ) → RegisterOk m x → ThreadOk m t → ThreadOk m (setBase x t)
-  base-ok x r f = let n = f .numbers in record { numbers = omega arith; registers = each-set (RegisterOk m) (registersOf t) 1 x none r (f .registers) }
+  base-ok x r f = let n = f .numbers in record { numbers = omega arith; registers = registers-ok 1 x r f }
 
   pub walk-ok : (x : ℕ) → RegisterOk m x → ThreadOk m t → ThreadOk m (setWalk x t)
-  walk-ok x r f = let n = f .numbers in record { numbers = omega arith; registers = each-set (RegisterOk m) (registersOf t) 2 x none r (f .registers) }
+  walk-ok x r f = let n = f .numbers in record { numbers = omega arith; registers = registers-ok 2 x r f }
 
   pub neighbour-ok : (x : ℕ) → RegisterOk m x → ThreadOk m t → ThreadOk m (setNeighbour x t)
-  neighbour-ok x r f = let n = f .numbers in record { numbers = omega arith; registers = each-set (RegisterOk m) (registersOf t) 3 x none r (f .registers) }
+  neighbour-ok x r f = let n = f .numbers in record { numbers = omega arith; registers = registers-ok 3 x r f }
 
   pub grandparent-ok : (x : ℕ) → RegisterOk m x → ThreadOk m t → ThreadOk m (setGrandparent x t)
-  grandparent-ok x r f = let n = f .numbers in record { numbers = omega arith; registers = each-set (RegisterOk m) (registersOf t) 4 x none r (f .registers) }
+  grandparent-ok x r f = let n = f .numbers in record { numbers = omega arith; registers = registers-ok 4 x r f }
 
   pub made-ok : (x : ℕ) → RegisterOk m x → ThreadOk m t → ThreadOk m (setMade x t)
-  made-ok x r f = let n = f .numbers in record { numbers = omega arith; registers = each-set (RegisterOk m) (registersOf t) 5 x none r (f .registers) }
+  made-ok x r f = let n = f .numbers in record { numbers = omega arith; registers = registers-ok 5 x r f }
 
+  -- the side; the answer and the commit number; the operation and the key
   pub side-ok : (w : Bool) → ThreadOk m t → ThreadOk m (setSide w t)
   side-ok w f = let n = f .numbers in record { numbers = omega arith; registers = f .registers }
 
@@ -55,27 +59,34 @@ module _ {m : ℕ} {t : Thread} where
   pub operation-ok : (o k : ℕ) → o ≤ 2 → k ≤ 63 → ThreadOk m t → ThreadOk m (setOperation o k t)
   operation-ok o k l h f = let b = f .numbers in record { numbers = omega arith; registers = f .registers }
 
+-- the thread as fresh
 pub fresh-thread-ok : (m : ℕ) → ThreadOk m freshThread
 unfolding threadInRange registersInRange registerInRange
 fresh-thread-ok m = thread-facts m freshThread refl
 
+-- "answers 0 or 1"
 pub answer-small : (o : ℕ) (b : Bool) → answerOf o b ≤ 1
 answer-small o b =
-    pick (λ (a : ℕ). a ≤ 1) (eqb o 0) (pick (λ (a : ℕ). a ≤ 1) b (omega arith) (omega arith)) (pick (λ (a : ℕ). a ≤ 1) b (omega arith) (omega arith))
+    let Q : ℕ → Type 0 = λ a. a ≤ 1 in
+    pick Q (eqb o 0) (pick Q b (lit≤ tt) (lit≤ tt)) (pick Q b (lit≤ tt) (lit≤ tt))
 
 -- ---- a place
 
+-- the place of a store that stores nothing
 pub zero-place-ok : (m : ℕ) → PlaceOk m zeroPlace
 unfolding placeInRange bodyInRange
-zero-place-ok m = place-facts m zeroPlace (omega arith) refl
+zero-place-ok m = place-facts m zeroPlace refl
 
-pub base-body-ok : (m ks : ℕ) → ks < 2 ^ 64 → BodyOk m (Base ks)
-base-body-ok m ks l = record { keys = l; key = omega arith; child = λ w e. absurd (true≢false (sym e)) }
+-- the body of a base
+pub base-body-ok : (m ks : ℕ) → BodyOk m (Base ks)
+base-body-ok m ks = record { key = omega arith; child = λ w e. absurd (true≢false (sym e)) }
 
+-- "New nodes are valid and free with statistics 0"
 pub new-ok : {m : ℕ} {b : Body} → BodyOk m b → PlaceOk m (newNode b)
 new-ok f = record { lock = omega arith; body = f }
 
 module _ {m : ℕ} {p : Place} where
+  -- another lock
   pub lock-ok : (l : Lock) → LockOk l → PlaceOk m p → PlaceOk m (withLock l p)
   lock-ok l g f = record { lock = g; body = f .body }
 
@@ -89,6 +100,7 @@ module _ {m : ℕ} {p : Place} where
   pub tried-ok : (me : ℕ) → me ≤ 7 → PlaceOk m p → PlaceOk m (withLock (tried me (p .lock)) p)
   tried-ok me h f = let l = f .lock in lock-ok (tried me (p .lock)) (omega arith) f
 
+  -- released; "statistics 0"; invalid; with other keys
   pub release-ok : PlaceOk m p → PlaceOk m (release p)
   release-ok f = let l = f .lock in lock-ok (released (p .lock)) (omega arith) f
 
@@ -98,12 +110,8 @@ module _ {m : ℕ} {p : Place} where
   pub invalid-ok : PlaceOk m p → PlaceOk m (invalid p)
   invalid-ok f = record { lock = f .lock; body = f .body }
 
-  pub keys-ok : (ks : ℕ) → ks < 2 ^ 64 → PlaceOk m p → PlaceOk m (withKeys ks p)
-  keys-ok ks l f = record { lock = f .lock; body = base-body-ok m ks l }
-
-pub keys-after-ok : (o ks k : ℕ) → ks < 2 ^ 64 → keysAfter o ks k < 2 ^ 64
-keys-after-ok o ks k l =
-    pick (λ (x : ℕ). x < 2 ^ 64) (eqb o 0) (with-lt ks k l) (pick (λ (x : ℕ). x < 2 ^ 64) (eqb o 1) (without-lt ks k l) l)
+  pub keys-ok : (ks : ℕ) → PlaceOk m p → PlaceOk m (withKeys ks p)
+  keys-ok ks f = record { lock = f .lock; body = base-body-ok m ks }
 
 -- the child of a place in range is a made node, or none where the place is a base
 pub child-ok : (m : ℕ) (w : Bool) (p : Place) → PlaceOk m p → RegisterOk m (childOn w p)
@@ -121,5 +129,5 @@ takes-ok {m} {p} x new l f = record { lock = f .lock; body = go (p .body) (f .bo
     go (Base ks) g = g
     go (Route k c d) g =
         pick (BodyOk m) (eqb c x)
-        (record { keys = g .keys; key = g .key; child = λ w e. pick (λ (n : ℕ). n < m) w (g .child true e) l })
-        (record { keys = g .keys; key = g .key; child = λ w e. pick (λ (n : ℕ). n < m) w l (g .child false e) })
+        (record { key = g .key; child = λ w e. pick (λ (n : ℕ). n < m) w (g .child true e) l })
+        (record { key = g .key; child = λ w e. pick (λ (n : ℕ). n < m) w l (g .child false e) })

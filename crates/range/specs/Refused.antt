@@ -1,23 +1,23 @@
 -- "State unchanged in all": a refused call leaves the state. And how many steps a run says that it took.
-use mathlib.Core.Bool.{Bool, true, false, not}
+use mathlib.Core.Bool.{not}
 use mathlib.Core.Path.{_≡_, refl, subst}
 use Prim.Native.Nat.{ℕ, zero, suc, _+_, _≤_, _<_}
 use native.Mathlib.Nat.{zero-add}
 use native.Mathlib.Omega.{arith}
 use lib.Dec.{eqb, leb, ltb}
 use Rattle.range.specs.Tests.{pick}
-use Rattle.range.specs.Kept.{run-tests}
-use Rattle.machine.specs.State.{threadAt}
-use Rattle.machine.specs.Rows.{stuck}
-use Rattle.machine.specs.Range.{inRange}
-use Rattle.machine.specs.Step.{beginOf, viewOf, after, ends, replyOf, stepOf, steps, runOf}
-use Rattle.machine.specs.declared.state.State.{State}
-use Rattle.machine.specs.declared.answer.Begin.{Begin}
-use Rattle.machine.specs.declared.answer.BeginReply as BeginReply
-use Rattle.machine.specs.declared.answer.Step.{Step}
-use Rattle.machine.specs.declared.answer.StepReply as StepReply
-use Rattle.machine.specs.declared.answer.Run.{Run}
-use Rattle.machine.specs.declared.answer.RunReply as RunReply
+use Rattle.range.specs.Calls.{steps-tests, run-tests}
+use Rattle.rules.specs.State.{threadAt}
+use Rattle.rules.specs.Rows.{stuck}
+use Rattle.rules.specs.Range.{inRange}
+use Rattle.rules.specs.Step.{beginOf, viewOf, after, ends, replyOf, stepOf, steps, runOf}
+use Rattle.rules.specs.declared.state.State.{State}
+use Rattle.rules.specs.declared.answer.Begin.{Begin}
+use Rattle.rules.specs.declared.answer.BeginReply as BeginReply
+use Rattle.rules.specs.declared.answer.Step.{Step}
+use Rattle.rules.specs.declared.answer.StepReply as StepReply
+use Rattle.rules.specs.declared.answer.Run.{Run}
+use Rattle.rules.specs.declared.answer.RunReply as RunReply
 
 -- begin
 pub begin-refused : (s : State) (t o k n : ℕ) → beginOf s t o k .reply ≡ BeginReply.the-variants.Refused n → beginOf s t o k .state ≡ s
@@ -47,41 +47,46 @@ Tells from few all s (RunReply.the-variants.Stops k p) = k ≡ all
 Tells from few all s (RunReply.the-variants.Ends k a c) = (few < k) × (k ≤ all)
 Tells from few all s (RunReply.the-variants.Refused m) = s ≡ from
 
+-- of the whole answer
 abbrev Told : State → ℕ → ℕ → Run → Type 0
 Told from few all r = Tells from few all (r .state) (r .reply)
 
-later : (from : State) (few n : ℕ) (s : State) (r : RunReply.RunReply) → Tells from (suc few) (suc few + n) s r → Tells from few (few + suc n) s r
+-- what holds after one more step was taken, of one step fewer
+later : (from : State) (few n : ℕ) (s : State) (r : RunReply.RunReply)
+    → Tells from (suc few) (suc few + n) s r → Tells from few (few + suc n) s r
 later from few n s (RunReply.the-variants.Stops k p) h = omega arith
 later from few n s (RunReply.the-variants.Ends k a c) h = omega arith
 later from few n s (RunReply.the-variants.Refused m) h = h
 
+-- n more steps after `taken`
 steps-tell : (n : ℕ) (from s : State) (t taken : ℕ) → Told from taken (taken + n) (steps n from s t taken)
 unfolding steps
 steps-tell zero from s t taken = omega arith
 steps-tell (suc n) from s t taken =
+    let Q = Told from taken (taken + suc n) in
     let r = steps n from (after s t) t (suc taken) in
-    go (stuck (viewOf s t)) refl (ends (threadAt s t)) refl (later from taken n (r .state) (r .reply) (steps-tell n from (after s t) t (suc taken)))
-  where
-    go : (a : Bool) → stuck (viewOf s t) ≡ a → (b : Bool) → ends (threadAt s t) ≡ b → Told from taken (taken + suc n) (steps n from (after s t) t (suc taken)) → Told from taken (taken + suc n) (steps (suc n) from s t taken)
-    go true e b g h = simp (steps, e) refl
-    go false e true g h = simp (steps, e, g) (omega arith)
-    go false e false g h = simp (steps, e, g) h
+    rw (steps-tests n from s t taken)
+    (pick Q (stuck (viewOf s t)) refl
+    (pick Q (ends (threadAt s t)) (omega arith) (later from taken n (r .state) (r .reply) (steps-tell n from (after s t) t (suc taken)))))
 
+-- the whole run
 run-tells : (s : State) (t n : ℕ) → Told s 0 n (runOf s t n)
 run-tells s t n =
+    let Q = Told s 0 n in
     rw (run-tests s t n)
-    (pick (Told s 0 n) (not (inRange s)) refl
-    (pick (Told s 0 n) (ltb 7 t) refl
-    (pick (Told s 0 n) (eqb n 0) refl
-    (pick (Told s 0 n) (ltb 1000 n) refl (pick (Told s 0 n) (eqb (threadAt s t .phase) 0) refl (rw zero-add at (steps-tell n s s t 0)))))))
+    (pick Q (not (inRange s)) refl
+    (pick Q (ltb 7 t) refl
+    (pick Q (eqb n 0) refl
+    (pick Q (ltb 1000 n) refl (pick Q (eqb (threadAt s t .phase) 0) refl (rw zero-add at (steps-tell n s s t 0)))))))
 
 -- counted steps
 pub run-refused : (s : State) (t n m : ℕ) → runOf s t n .reply ≡ RunReply.the-variants.Refused m → runOf s t n .state ≡ s
 run-refused s t n m e = subst (Tells s 0 n (runOf s t n .state)) e (run-tells s t n)
 
--- "until n have been taken or the operation ends"
+-- "Steps are taken until n have been taken"
 pub run-stops : (s : State) (t n k p : ℕ) → runOf s t n .reply ≡ RunReply.the-variants.Stops k p → k ≡ n
 run-stops s t n k p e = subst (Tells s 0 n (runOf s t n .state)) e (run-tells s t n)
 
+-- "or the operation ends"
 pub run-ends : (s : State) (t n k a c : ℕ) → runOf s t n .reply ≡ RunReply.the-variants.Ends k a c → (1 ≤ k) × (k ≤ n)
 run-ends s t n k a c e = subst (Tells s 0 n (runOf s t n .state)) e (run-tells s t n)

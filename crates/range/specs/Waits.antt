@@ -10,14 +10,14 @@ use lib.ListN.{getD}
 use lib.Seq.{set-getD}
 use Rattle.range.specs.Tests.{both, either}
 use Rattle.range.specs.Phase.{row-at}
-use Rattle.machine.specs.State.{zeroThread, threadAt}
-use Rattle.machine.specs.Places.{isFree}
-use Rattle.machine.specs.Rows.{goes, rows, row0, row4, row13, row17, planOf, stuck}
-use Rattle.machine.specs.Step.{viewBefore, viewOf, put, apply, ends, after, steps}
-use Rattle.machine.specs.declared.state.Place.{Place}
-use Rattle.machine.specs.declared.state.State.{State}
-use Rattle.machine.specs.declared.row.View.{View}
-use Rattle.machine.specs.declared.answer.RunReply as RunReply
+use Rattle.rules.specs.State.{zeroThread, threadAt}
+use Rattle.rules.specs.Places.{isFree}
+use Rattle.rules.specs.Rows.{goes, rows, row0, row4, row13, row17, planOf, stuck}
+use Rattle.rules.specs.Step.{viewBefore, viewOf, put, apply, ends, after, steps}
+use Rattle.rules.specs.declared.state.Place.{Place}
+use Rattle.rules.specs.declared.state.State.{State}
+use Rattle.rules.specs.declared.row.View.{View}
+use Rattle.rules.specs.declared.answer.RunReply as RunReply
 
 -- thread at phase p, where the lock of place x is taken, and that lock is held
 abbrev pub waitsAt : ℕ → Place → View → Bool
@@ -54,7 +54,8 @@ waiting v w =
     let forP = waitsAt 13 (v .prev) v in
     ⊎-elim (λ h. ⊎-elim at4 at13 (either forB forP h)) at17 (either (forB || forP) (waitsAt 17 (v .grandparent) v) w)
   where
-    held : (p : ℕ) (x : Place) → (isFree x ≡ false → getD rows p row0 v ≡ goes v p) → eqb p 25 ≡ false → waitsAt p x v ≡ true → Waiting v
+    held : (p : ℕ) (x : Place) → (isFree x ≡ false → getD rows p row0 v ≡ goes v p) → eqb p 25 ≡ false
+        → waitsAt p x v ≡ true → Waiting v
     held p x f g h =
         let (a, n) = both (eqb (v .thread .phase) p) (not (isFree x)) h in
         let e = eqb-true (v .thread .phase) p a in

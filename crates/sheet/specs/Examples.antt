@@ -6,15 +6,13 @@ use Prim.Native.Char.{code}
 use Prim.Native.String as String
 use Prim.Native.String.{String}
 use Rattle.keys.specs.Keys.{with, without, union, below, from, rising, listOf, size, splitKey}
-use Rattle.machine.specs.State.{freshLock, unmade, newNode, freshThread, fresh, zeroPlace, zeroThread, placeAt, threadAt}
-use Rattle.machine.specs.Registers.{atPhase, setPrev, setBase, setWalk, setNeighbour, setGrandparent, setMade, setSide, setOperation, setAnswer}
-use Rattle.machine.specs.Places.{takesPlace, release, zero, invalid, withKeys}
-use Rattle.machine.specs.Rows.{noStore, stores3, hangs, searches, seeks, row1, row2, row3, row4, commits, decides, row5, noSplit, split, row6, row7, row8, row9, row10, row11, noJoin, join, row12, row13, row14, row15, row16, row17, row18, row19, row20, row21, row22, row23, row24, row25, row0, rows, planOf, needs, stuck}
-use Rattle.machine.specs.Range.{settingsInRange, bodyInRange, placeInRange, registerInRange, registersInRange, threadInRange, placesInRange, threadsInRange, countsInRange, inRange}
-use Rattle.machine.specs.Step.{zeroSettings, freshOf, begun, beginOf, viewBefore, nextOf, viewOf, put, apply, after, replyOf, stepOf, steps, runOf}
-use Rattle.machine.specs.List.{unmet, again, meets, lists, gather, reached, keyListOf}
-use Rattle.sheet.specs.Text.{onto, fields, lines, digits, isNumber, valueFrom, value, decimalOf, decimal, tabbed, sheetLine, commas, keysText}
-use Rattle.sheet.specs.Form.{isLetter, isBelow, isMin, lowOf, isFirst, settingsOf, firstForm, isOperation, operationOf, isBegin, isSteps, lineForm}
+use Rattle.rules.specs.State.{fresh, placeAt, threadAt}
+use Rattle.rules.specs.Rows.{hangs, searches, seeks, row1, row2, row3, row4, commits, decides, row5, noSplit, split, row6, row7, row8, row9, row10, row11, noJoin, join, row12, row13, row14, row15, row16, row17, row18, row19, row20, row21, row22, row23, row24, row25, row0, rows, planOf, needs, stuck}
+use Rattle.rules.specs.Range.{settingsInRange, bodyInRange, placeInRange, registerInRange, registersInRange, threadInRange, placesInRange, threadsInRange, countsInRange, inRange}
+use Rattle.rules.specs.Step.{zeroSettings, freshOf, begun, beginOf, viewBefore, nextOf, viewOf, put, apply, after, replyOf, stepOf, steps, runOf}
+use Rattle.rules.specs.List.{unmet, again, meets, lists, gather, reached, keyListOf}
+use Rattle.text.specs.Text.{onto, fields, lines, isLetter, digits, isNumber, valueFrom, value, decimalOf, decimal, tabbed, sheetLine, commas, keysText, keysLine}
+use Rattle.sheet.specs.Form.{isBelow, isMin, lowOf, isFirst, settingsOf, settingsForm, ranged, firstForm, isOperation, operationOf, isBegin, isSteps, lineForm}
 use Rattle.sheet.specs.Sheet.{refusal, beginLine, runLine, playForm, lineOf, endText, endForm, endOf, firstPlayed, firstOf, playLines, playFirst, playAll, sheetOf}
 
 pub record Example : Type 0 where
@@ -111,5 +109,5 @@ examples =
 
 -- every example is played as document 01 has it
 pub examples-played : map played examples ≡ map written examples
-unfolding with without union below from rising listOf size splitKey freshLock unmade newNode freshThread fresh zeroPlace zeroThread placeAt threadAt atPhase setPrev setBase setWalk setNeighbour setGrandparent setMade setSide setOperation setAnswer takesPlace release zero invalid withKeys noStore stores3 hangs searches seeks row1 row2 row3 row4 commits decides row5 noSplit split row6 row7 row8 row9 row10 row11 noJoin join row12 row13 row14 row15 row16 row17 row18 row19 row20 row21 row22 row23 row24 row25 row0 rows planOf needs stuck settingsInRange bodyInRange placeInRange registerInRange registersInRange threadInRange placesInRange threadsInRange countsInRange inRange zeroSettings freshOf begun beginOf viewBefore nextOf viewOf put apply after replyOf stepOf steps runOf unmet again meets lists gather reached keyListOf onto fields lines digits isNumber valueFrom value decimalOf decimal tabbed sheetLine commas keysText isLetter isBelow isMin lowOf isFirst settingsOf firstForm isOperation operationOf isBegin isSteps lineForm refusal beginLine runLine playForm lineOf endText endForm endOf firstPlayed firstOf playLines playFirst playAll sheetOf examples
+unfolding with without union below from rising listOf size splitKey fresh placeAt threadAt hangs searches seeks row1 row2 row3 row4 commits decides row5 noSplit split row6 row7 row8 row9 row10 row11 noJoin join row12 row13 row14 row15 row16 row17 row18 row19 row20 row21 row22 row23 row24 row25 row0 rows planOf needs stuck settingsInRange bodyInRange placeInRange registerInRange registersInRange threadInRange placesInRange threadsInRange countsInRange inRange zeroSettings freshOf begun beginOf viewBefore nextOf viewOf put apply after replyOf stepOf steps runOf unmet again meets lists gather reached keyListOf onto fields lines digits isNumber valueFrom value decimalOf decimal tabbed sheetLine commas keysText keysLine isLetter isBelow isMin lowOf isFirst settingsOf settingsForm ranged firstForm isOperation operationOf isBegin isSteps lineForm refusal beginLine runLine playForm lineOf endText endForm endOf firstPlayed firstOf playLines playFirst playAll sheetOf examples
 examples-played = refl

@@ -4,19 +4,16 @@ use mathlib.Core.List.{List, [], _∷_}
 use Prim.Native.Nat.{ℕ}
 use lib.Dec.{eqb}
 use lib.ListN.{length, getD, drop}
-use Rattle.machine.specs.Range.{settingsInRange}
-use Rattle.machine.specs.declared.state.Settings.{Settings}
-use Rattle.sheet.specs.Text.{minus, fields, isNumber, value}
+use Rattle.rules.specs.Range.{settingsInRange}
+use Rattle.rules.specs.declared.state.Settings.{Settings}
+use Rattle.text.specs.Text.{minus, fields, isLetter, isNumber, value, valueIf}
+use Rattle.text.specs.declared.read.Number.{Number}
 use Rattle.sheet.specs.declared.form.First as First
 use Rattle.sheet.specs.declared.form.Line as Line
 
 -- field i of some fields
 abbrev pub field : List (List ℕ) → ℕ → List ℕ
 field fs i = getD fs i []
-
--- a field that is one letter
-unfoldable pub isLetter : ℕ → List ℕ → Bool
-isLetter b f = eqb (length f) 1 && eqb (getD f 0 0) b
 
 -- "min may have a minus before a number that isn't 0": the number behind the minus
 unfoldable pub isBelow : List ℕ → Bool
@@ -30,6 +27,14 @@ isMin f = cond (isBelow f) true (isNumber f && eqb (value f) 0)
 unfoldable pub lowOf : List ℕ → ℕ
 lowOf f = cond (isBelow f) (value (drop 1 f)) 0
 
+-- what a field says as a number below 0
+abbrev pub belowRead : List ℕ → Number
+belowRead f = valueIf (isBelow f) (value (drop 1 f))
+
+-- what a field says as min
+abbrev pub lowRead : List ℕ → Number
+lowRead f = valueIf (isMin f) (lowOf f)
+
 -- `R succ fail min max`
 unfoldable pub isFirst : List (List ℕ) → Bool
 isFirst fs =
@@ -40,11 +45,18 @@ unfoldable pub settingsOf : List (List ℕ) → Settings
 settingsOf fs =
     record { succ = value (field fs 1); fail = value (field fs 2); low = lowOf (field fs 3); max = value (field fs 4) }
 
+-- a settings line, in range or not
+unfoldable pub settingsForm : List (List ℕ) → First.First
+settingsForm fs = cond (isFirst fs) (First.the-variants.Settings (settingsOf fs)) First.the-variants.Slip
+
+-- settings out of range are a slip
+unfoldable pub ranged : First.First → First.First
+ranged (First.the-variants.Settings c) = cond (settingsInRange c) (First.the-variants.Settings c) First.the-variants.Slip
+ranged First.the-variants.Slip = First.the-variants.Slip
+
 -- a settings line in range, or a slip
 unfoldable pub firstForm : List ℕ → First.First
-firstForm l =
-    cond (isFirst (fields l) && settingsInRange (settingsOf (fields l))) (First.the-variants.Settings (settingsOf (fields l)))
-    First.the-variants.Slip
+firstForm l = ranged (settingsForm (fields l))
 
 -- "op `I`, `D` or `L`"
 unfoldable pub isOperation : List ℕ → Bool
@@ -53,6 +65,10 @@ isOperation f = cond (isLetter 73 f) true (cond (isLetter 68 f) true (isLetter 7
 -- "insert, delete, lookup, numbered 0, 1, 2"
 unfoldable pub operationOf : List ℕ → ℕ
 operationOf f = cond (isLetter 73 f) 0 (cond (isLetter 68 f) 1 2)
+
+-- the operation that a field names
+abbrev pub operationRead : List ℕ → Number
+operationRead f = valueIf (isOperation f) (operationOf f)
 
 -- `B thread op key`
 unfoldable pub isBegin : List (List ℕ) → Bool

@@ -1,4 +1,3 @@
-pub mod Text
 pub mod Form
 pub mod Sheet
 pub mod Examples

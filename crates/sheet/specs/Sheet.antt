@@ -5,17 +5,17 @@ use Prim.Native.Nat.{ℕ}
 use lib.Dec.{ltb}
 use lib.ListN.{length}
 use Rattle.keys.specs.Keys.{listOf}
-use Rattle.machine.specs.State.{fresh}
-use Rattle.machine.specs.Range.{inRange}
-use Rattle.machine.specs.Step.{zeroSettings, beginOf, runOf}
-use Rattle.machine.specs.List.{keyListOf}
-use Rattle.machine.specs.declared.state.State.{State}
-use Rattle.machine.specs.declared.answer.Begin.{Begin}
-use Rattle.machine.specs.declared.answer.BeginReply as BeginReply
-use Rattle.machine.specs.declared.answer.Run.{Run}
-use Rattle.machine.specs.declared.answer.RunReply as RunReply
-use Rattle.machine.specs.declared.answer.ListReply as ListReply
-use Rattle.sheet.specs.Text.{tab, newline, lines, decimal, tabbed, sheetLine, keysText}
+use Rattle.rules.specs.State.{fresh}
+use Rattle.rules.specs.Range.{inRange}
+use Rattle.rules.specs.Step.{zeroSettings, beginOf, runOf}
+use Rattle.rules.specs.List.{keyListOf}
+use Rattle.rules.specs.declared.state.State.{State}
+use Rattle.rules.specs.declared.answer.Begin.{Begin}
+use Rattle.rules.specs.declared.answer.BeginReply as BeginReply
+use Rattle.rules.specs.declared.answer.Run.{Run}
+use Rattle.rules.specs.declared.answer.RunReply as RunReply
+use Rattle.rules.specs.declared.answer.ListReply as ListReply
+use Rattle.text.specs.Text.{lines, sheetLine, keysLine}
 use Rattle.sheet.specs.Form.{firstForm, lineForm}
 use Rattle.sheet.specs.declared.form.First as First
 use Rattle.sheet.specs.declared.form.Line as Line
@@ -68,7 +68,7 @@ lineOf room s l =
 
 -- `E committed made keys`
 unfoldable pub endText : State → List ℕ → List ℕ
-endText s ks = 69 ∷ (tabbed (s .committed ∷ s .made ∷ []) ++ (tab ∷ (keysText ks ++ (newline ∷ []))))
+endText s ks = keysLine 69 (s .committed ∷ s .made ∷ []) ks
 
 unfoldable pub endForm : State → ListReply.ListReply → Played
 endForm s (ListReply.the-variants.Keys ks) = wrote s (endText s (listOf ks))

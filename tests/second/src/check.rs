@@ -100,7 +100,9 @@ impl Checker {
             self.most_routes = passed;
         }
         if passed > MOST_ROUTES_OF_A_WALK {
-            self.fail(format!("thread {thread}'s walk passed through {passed} routes"));
+            self.fail(format!(
+                "thread {thread}'s walk passed through {passed} routes"
+            ));
         }
     }
 
@@ -222,7 +224,10 @@ impl Onlooker for Checker {
             self.commit_on_plain_set(thread, old.operation, old.key);
         }
         if state.committed != self.commits {
-            self.fail(format!("{} committed, not {}", state.committed, self.commits));
+            self.fail(format!(
+                "{} committed, not {}",
+                state.committed, self.commits
+            ));
         }
         self.check_answer(thread, reply);
         self.check_walk(&before, state, thread);

@@ -232,7 +232,11 @@ fn damage(random: &mut Random, line: &[u8]) -> Vec<u8> {
         11 => fields.push(b"1".to_vec()),
         12 => fields.insert(at, Vec::new()),
         13 => fields[at] = Vec::new(),
-        14 => fields[0] = random.pick(&["b", "s", "r", "X", "E", "D", "R", "BB", "I", ""]).into(),
+        14 => {
+            fields[0] = random
+                .pick(&["b", "s", "r", "X", "E", "D", "R", "BB", "I", ""])
+                .into()
+        }
         15 => fields[0] = random.pick(&["B", "S"]).into(),
         16 => fields[number_at].insert(0, b'0'),
         17 => fields[number_at].insert(0, b'-'),
@@ -255,8 +259,16 @@ fn damage(random: &mut Random, line: &[u8]) -> Vec<u8> {
             let n = random.pick(&[0, 1, 2, 999, 1000, 1001, 1002, 1024, 65535, 65536, 65537]);
             fields[number_at] = n.to_string().into_bytes();
         }
-        28 => fields[number_at] = random.pick(&["i", "d", "l", "Q", "II", "I ", " I", "B"]).into(),
-        29 => fields[number_at] = random.pick(&["I", "D", "L", "0x1", "1e1", "1.0", "1,0", "1_0"]).into(),
+        28 => {
+            fields[number_at] = random
+                .pick(&["i", "d", "l", "Q", "II", "I ", " I", "B"])
+                .into()
+        }
+        29 => {
+            fields[number_at] = random
+                .pick(&["I", "D", "L", "0x1", "1e1", "1.0", "1,0", "1_0"])
+                .into()
+        }
         30 => {
             return line
                 .iter()
@@ -275,6 +287,25 @@ fn damage(random: &mut Random, line: &[u8]) -> Vec<u8> {
         }
     }
     fields.join(&b'\t')
+}
+
+/// A line of the right form with numbers in and out of range, several at once.
+fn odd_numbers(random: &mut Random) -> Vec<u8> {
+    let thread = random.pick(&[
+        0, 0, 1, 2, 3, 4, 5, 6, 7, 7, 8, 8, 9, 10, 255, 256, 9_999_999,
+    ]);
+    if random.one_in(2) {
+        let key = random.pick(&[
+            0, 1, 5, 31, 32, 62, 63, 64, 64, 65, 100, 255, 256, 320, 9_999_999,
+        ]);
+        let letter = random.pick(&["I", "D", "L", "L", "i", "X"]);
+        format!("B\t{thread}\t{letter}\t{key}").into_bytes()
+    } else {
+        let count = random.pick(&[
+            0, 0, 1, 2, 3, 10, 999, 1000, 1001, 1001, 1002, 65_536, 9_999_999,
+        ]);
+        format!("S\t{thread}\t{count}").into_bytes()
+    }
 }
 
 // ---- the maker ----------------------------------------------------------
@@ -369,10 +400,14 @@ impl Maker {
         }
     }
 
-    /// Writes a good line, or sometimes a damaged one before it or for it.
+    /// Writes a good line, and sometimes a damaged one before it.
     fn good_line(&mut self, line: &[u8]) {
         if self.damaged_one_in > 0 && self.random.one_in(self.damaged_one_in) {
-            let bad = damage(&mut self.random, line);
+            let bad = if self.random.one_in(5) {
+                odd_numbers(&mut self.random)
+            } else {
+                damage(&mut self.random, line)
+            };
             self.line(&bad);
         }
         self.line(line);
@@ -394,7 +429,9 @@ impl Maker {
     }
 
     fn idle_thread(&mut self) -> Option<usize> {
-        let idle: Vec<usize> = (0..self.threads_used).filter(|&t| self.phase(t) == 0).collect();
+        let idle: Vec<usize> = (0..self.threads_used)
+            .filter(|&t| self.phase(t) == 0)
+            .collect();
         if idle.is_empty() {
             return None;
         }
@@ -420,7 +457,8 @@ impl Maker {
     }
 
     fn any_operation(&mut self) -> u32 {
-        self.random.pick(&[INSERT, INSERT, INSERT, DELETE, LOOKUP, LOOKUP])
+        self.random
+            .pick(&[INSERT, INSERT, INSERT, DELETE, LOOKUP, LOOKUP])
     }
 
     /// The base that a search for the key reaches now, and its parent.
@@ -811,7 +849,9 @@ impl Maker {
         let above_first = self.random.one_in(2);
         if above_first {
             let stop = self.random.between(9, 13) as u32;
-            if !self.to_a_join(a, high_key) || !self.step_to(a, 60, |phase| phase >= stop && phase <= 13) {
+            if !self.to_a_join(a, high_key)
+                || !self.step_to(a, 60, |phase| phase >= stop && phase <= 13)
+            {
                 return false;
             }
         }
@@ -841,7 +881,11 @@ impl Maker {
         }
         let waits = self.random.between(1, 2);
         self.steps(a, waits);
-        let order = if self.random.one_in(2) { [a, c] } else { [c, a] };
+        let order = if self.random.one_in(2) {
+            [a, c]
+        } else {
+            [c, a]
+        };
         for t in order {
             match self.random.below(4) {
                 0 | 1 => {
@@ -1040,7 +1084,11 @@ impl Maker {
         }
         let count = self.random.between(1, 6);
         self.steps(a, count);
-        let order = if self.random.one_in(2) { [a, c] } else { [c, a] };
+        let order = if self.random.one_in(2) {
+            [a, c]
+        } else {
+            [c, a]
+        };
         for t in order {
             match self.random.below(3) {
                 0 => {
@@ -1294,7 +1342,13 @@ impl Maker {
             }
         }
         self.damaged_one_in = damaged_one_in;
-        self.key_pool = vec![low, low, high % KEYS, self.random.below(KEYS), self.random.below(KEYS)];
+        self.key_pool = vec![
+            low,
+            low,
+            high % KEYS,
+            self.random.below(KEYS),
+            self.random.below(KEYS),
+        ];
         self.budget = self.out.len() + self.random.between(30, 900);
         while self.room() {
             let key = self.any_key();
@@ -1442,13 +1496,19 @@ impl Maker {
         while self.room() {
             self.shuffle(3);
             if self.random.one_in(3) {
-                let line = self.random.pick(&[b"B\t0\tI\t5" as &[u8], b"S\t0\t1", b"R\t1\t2\t-3\t4"]);
+                let line =
+                    self.random
+                        .pick(&[b"B\t0\tI\t5" as &[u8], b"S\t0\t1", b"R\t1\t2\t-3\t4"]);
                 let mut bad = damage(&mut self.random, line);
                 if self.random.one_in(3) {
                     bad = damage(&mut self.random, &bad);
                     bad.retain(|&c| c != b'\n');
                 }
                 self.line(&bad);
+            }
+            if self.random.one_in(3) {
+                let odd = odd_numbers(&mut self.random);
+                self.line(&odd);
             }
         }
         self.ending();
@@ -1459,7 +1519,9 @@ impl Maker {
     fn at_the_byte_limit(&mut self) {
         let settings = lively_settings(&mut self.random);
         self.first_line(settings);
-        let length = self.random.pick(&[59_999, 60_000, 60_000, 60_001, 60_001, 60_002, 61_000, 70_000]);
+        let length = self.random.pick(&[
+            59_999, 60_000, 60_000, 60_001, 60_001, 60_002, 61_000, 70_000,
+        ]);
         let scenes = self.random.one_in(3);
         let junk = self.random.one_in(3);
         self.budget = if junk { 2_000 } else { length - 2500 };

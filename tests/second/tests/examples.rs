@@ -129,7 +129,9 @@ fn example_b_state() {
 fn example_c() {
     plays(
         &format!("{B_START} / {B_REST} / B 0 L 2 / S 0 5 / B 0 L 2 / S 0 1000"),
-        &format!("{B_START_SHEET} / {B_REST_SHEET} / B 0 / D 0 5 1 6 / B 0 / D 0 16 1 7 / E 7 5 2,5,7,9"),
+        &format!(
+            "{B_START_SHEET} / {B_REST_SHEET} / B 0 / D 0 5 1 6 / B 0 / D 0 16 1 7 / E 7 5 2,5,7,9"
+        ),
     );
 }
 
@@ -154,7 +156,9 @@ fn example_c_phase_by_phase() {
 fn example_d() {
     plays(
         &format!("{B_START} / {B_REST} / B 0 L 2 / S 0 5 / B 0 L 2 / S 0 12"),
-        &format!("{B_START_SHEET} / {B_REST_SHEET} / B 0 / D 0 5 1 6 / B 0 / S 0 12 21 / E 7 5 7,9"),
+        &format!(
+            "{B_START_SHEET} / {B_REST_SHEET} / B 0 / D 0 5 1 6 / B 0 / S 0 12 21 / E 7 5 7,9"
+        ),
     );
 }
 
@@ -300,7 +304,11 @@ fn first_lines() {
     for schedule in refused {
         assert_eq!(key_sheet(schedule), b"X\t2\n");
     }
-    for good in ["R 0 0 0 0", "R 1000 1000 -1000000 1000000", "R 1 250 -1000 1000"] {
+    for good in [
+        "R 0 0 0 0",
+        "R 1000 1000 -1000000 1000000",
+        "R 1 250 -1000 1000",
+    ] {
         plays(good, "R / E 0 1 -");
     }
     // the last line may lack its newline
@@ -310,11 +318,36 @@ fn first_lines() {
 #[test]
 fn lines_of_no_form() {
     let slips: [&[u8]; 30] = [
-        b"", b" ", b"\r", b"\t", b"B", b"S", b"B\t0\tI", b"B\t0\tI\t5\t", b"B\t0\tI\t5\t1",
-        b"B\t0\tI\t5 ", b"B\t0\tI\t5\r", b"B\t00\tI\t5", b"B\t0\tI\t05", b"B\t-0\tI\t5",
-        b"B\t0\tI\t-5", b"B\t0\ti\t5", b"B\t0\t0\t5", b"B\t0\t\t5", b"B\t\tI\t5", b"b\t0\tI\t5",
-        b"B 0 I 5", b"B\t\t0\tI\t5", b"S\t0", b"S\t0\t1\t1", b"S\t0\t01", b"S\t0\t10000000",
-        b"S\t8\t01", b"B\t8\tQ\t64", b"B\t00000000\tI\t5", b"R\t1\t250\t-1000\t1000",
+        b"",
+        b" ",
+        b"\r",
+        b"\t",
+        b"B",
+        b"S",
+        b"B\t0\tI",
+        b"B\t0\tI\t5\t",
+        b"B\t0\tI\t5\t1",
+        b"B\t0\tI\t5 ",
+        b"B\t0\tI\t5\r",
+        b"B\t00\tI\t5",
+        b"B\t0\tI\t05",
+        b"B\t-0\tI\t5",
+        b"B\t0\tI\t-5",
+        b"B\t0\ti\t5",
+        b"B\t0\t0\t5",
+        b"B\t0\t\t5",
+        b"B\t\tI\t5",
+        b"b\t0\tI\t5",
+        b"B 0 I 5",
+        b"B\t\t0\tI\t5",
+        b"S\t0",
+        b"S\t0\t1\t1",
+        b"S\t0\t01",
+        b"S\t0\t10000000",
+        b"S\t8\t01",
+        b"B\t8\tQ\t64",
+        b"B\t00000000\tI\t5",
+        b"R\t1\t250\t-1000\t1000",
     ];
     for slip in slips {
         let mut schedule = b"R\t1\t250\t-1000\t1000\n".to_vec();
@@ -389,6 +422,10 @@ fn checks_hold_on_some_schedules() {
     for seed in 0..60 {
         let mut checker = Checker::new();
         key_sheet_watched(&schedule(seed), &mut checker);
-        assert!(checker.failures.is_empty(), "seed {seed}: {:?}", checker.failures);
+        assert!(
+            checker.failures.is_empty(),
+            "seed {seed}: {:?}",
+            checker.failures
+        );
     }
 }

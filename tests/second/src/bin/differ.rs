@@ -3,7 +3,8 @@
 //! second program, and compares the sheets byte for byte. At the first
 //! difference it tells where it is, makes the schedule small, and ends with
 //! status 1. Further choices: `--jobs J` (2), `--seconds T` (60, the longest
-//! that PROGRAM may take for one schedule).
+//! that PROGRAM may take for one schedule), `--shrink T` (30, the seconds spent
+//! on making a schedule small).
 
 use second_player::making::schedule;
 use second_player::sheet::{key_sheet, lines_of};
@@ -20,11 +21,11 @@ use std::time::{Duration, Instant};
 const MOST_SHEET_BYTES: u64 = 4_000_000;
 /// Schedules up to this long are written to PROGRAM at once: any pipe holds them.
 const SURELY_HELD_BY_A_PIPE: usize = 4096;
-/// Runs of PROGRAM spent on making one schedule small.
-const MOST_SHRINKING_RUNS: usize = 20_000;
 
 fn usage() -> ! {
-    eprintln!("usage: differ PROGRAM [--jobs J] [--seconds T] (SEED... | --from N --count M)");
+    eprintln!(
+        "usage: PROGRAM (SEED... | --from N --count M) [--jobs J] [--seconds T] [--shrink T]"
+    );
     exit(2);
 }
 
@@ -35,6 +36,7 @@ struct Wishes {
     count: usize,
     jobs: usize,
     seconds: u64,
+    shrink: u64,
 }
 
 fn wishes() -> Wishes {
@@ -47,6 +49,7 @@ fn wishes() -> Wishes {
         count: 0,
         jobs: 2,
         seconds: 60,
+        shrink: 30,
     };
     while let Some(word) = arguments.next() {
         let number = |text: Option<String>| -> u64 {
@@ -57,6 +60,7 @@ fn wishes() -> Wishes {
             "--count" => wishes.count = number(arguments.next()) as usize,
             "--jobs" => wishes.jobs = number(arguments.next()).max(1) as usize,
             "--seconds" => wishes.seconds = number(arguments.next()),
+            "--shrink" => wishes.shrink = number(arguments.next()),
             _ => wishes.seeds.push(number(Some(word))),
         }
     }
@@ -146,11 +150,15 @@ fn run(program: &[String], schedule: &[u8], place: &Place) -> Outcome {
     if sheet.len() as u64 == MOST_SHEET_BYTES {
         let _ = child.kill();
     }
-    let status = child.wait().expect("a process of one's own can be waited for");
+    let status = child
+        .wait()
+        .expect("a process of one's own can be waited for");
     let trouble = if place.too_long.load(Ordering::SeqCst) {
         Some("it took too long and was ended".to_string())
     } else {
-        status.signal().map(|signal| format!("it was ended by signal {signal}"))
+        status
+            .signal()
+            .map(|signal| format!("it was ended by signal {signal}"))
     };
     Outcome { sheet, trouble }
 }
@@ -272,11 +280,12 @@ struct Shrinker<'a> {
     program: &'a [String],
     place: &'a Place,
     runs: usize,
+    until: Instant,
 }
 
 impl Shrinker<'_> {
     fn differs(&mut self, schedule: &[u8]) -> bool {
-        if self.runs >= MOST_SHRINKING_RUNS {
+        if Instant::now() > self.until {
             return false;
         }
         self.runs += 1;
@@ -296,12 +305,13 @@ impl Shrinker<'_> {
             }
         }
         // Drop lines greedily, many at a time first.
-        let mut lines: Vec<Vec<u8>> = pieces_of(&best).iter().map(|p| p.to_vec()).collect();
+        let mut lines = pieces_of(&best);
         self.drop_parts(&mut lines, |parts| parts.concat());
         // Then bytes of the lines that are still long.
+        let mut lines: Vec<Vec<u8>> = lines.iter().map(|line| line.to_vec()).collect();
         for i in 0..lines.len() {
             if lines[i].len() > 40 {
-                let mut bytes: Vec<u8> = lines[i].clone();
+                let mut bytes = lines[i].clone();
                 let before = lines[..i].concat();
                 let after = lines[i + 1..].concat();
                 self.drop_parts(&mut bytes, |parts| [&before, parts, &after].concat());
@@ -326,6 +336,9 @@ impl Shrinker<'_> {
                     dropped = true;
                 }
                 end = start;
+            }
+            if Instant::now() > self.until {
+                return;
             }
             if size > 1 {
                 size /= 2;
@@ -384,6 +397,7 @@ fn main() {
                 program: &wishes.program,
                 place: &places[0],
                 runs: 0,
+                until: Instant::now() + Duration::from_secs(wishes.shrink),
             };
             let small = shrinker.small(&schedule, outcome);
             tell(seed, &schedule, outcome, &small, shrinker.runs);

@@ -12,9 +12,9 @@ fn main() -> io::Result<()> {
     let arguments: Vec<String> = std::env::args().skip(1).collect();
     let words: Vec<&str> = arguments.iter().map(|a| a.as_str()).collect();
     match words[..] {
-        [seed] if seed.parse::<u64>().is_ok() => {
-            io::stdout().lock().write_all(&schedule(seed.parse().unwrap()))
-        }
+        [seed] if seed.parse::<u64>().is_ok() => io::stdout()
+            .lock()
+            .write_all(&schedule(seed.parse().unwrap())),
         ["--many", from, count] => many(number(from), number(count)),
         ["--counts", from, count] => counts(number(from), number(count)),
         _ => usage(),

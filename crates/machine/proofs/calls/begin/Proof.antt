@@ -1,8 +1,8 @@
 -- `machine::calls::begin` meets its contract.
 use borrow.Author.Needs.{needs}
 use borrow.Author.Tests.{eq-eqb, le-leb, le-ltb, lt-leb, lt-ltb, ne-eqb}
-use Rattle.machine.specs.Step.{beginOf}
-use Rattle.machine.specs.State.{threadAt}
+use Rattle.rules.specs.Step.{beginOf}
+use Rattle.rules.specs.State.{threadAt}
 use Rattle.machine.proofs.calls.begin.Statement.{statement}
 use Rattle.machine.proofs.calls.begin.Tie as tie
 

@@ -1,7 +1,7 @@
 -- `machine::calls::begun` meets its contract.
 use borrow.Author.Needs.{needs}
-use Rattle.machine.specs.Step.{begun}
-use Rattle.machine.specs.State.{threadAt}
+use Rattle.rules.specs.Step.{begun}
+use Rattle.rules.specs.State.{threadAt}
 use Rattle.machine.proofs.calls.begun.Statement.{statement}
 use Rattle.machine.proofs.calls.begun.Tie as tie
 

@@ -1,6 +1,6 @@
 -- `machine::calls::fresh` meets its contract.
 use borrow.Author.Needs.{needs}
-use Rattle.machine.specs.Step.{freshOf, zeroSettings}
+use Rattle.rules.specs.Step.{freshOf, zeroSettings}
 use Rattle.machine.proofs.calls.fresh.Statement.{statement}
 use Rattle.machine.proofs.calls.fresh.Tie as tie
 

@@ -1,6 +1,6 @@
 -- `machine::calls::fresh_state` meets its contract.
 use borrow.Author.Needs.{needs}
-use Rattle.machine.specs.State.{fresh}
+use Rattle.rules.specs.State.{fresh}
 use Rattle.machine.proofs.calls.fresh_state.Statement.{statement}
 use Rattle.machine.proofs.calls.fresh_state.Tie as tie
 

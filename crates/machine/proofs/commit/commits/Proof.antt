@@ -1,6 +1,6 @@
 -- `machine::commit::commits` meets its contract.
 use borrow.Author.Needs.{needs}
-use Rattle.machine.specs.Rows.{commits}
+use Rattle.rules.specs.Rows.{commits}
 use Rattle.machine.proofs.commit.commits.Statement.{statement}
 use Rattle.machine.proofs.commit.commits.Tie as tie
 

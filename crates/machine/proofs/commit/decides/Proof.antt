@@ -1,7 +1,7 @@
 -- `machine::commit::decides` meets its contract.
 use borrow.Author.Needs.{needs}
 use borrow.Author.Tests.{eq-eqb, ne-eqb}
-use Rattle.machine.specs.Rows.{decides}
+use Rattle.rules.specs.Rows.{decides}
 use Rattle.machine.proofs.commit.decides.Statement.{statement}
 use Rattle.machine.proofs.commit.decides.Tie as tie
 

@@ -1,7 +1,7 @@
 -- `machine::join::row_15` meets its contract.
 use borrow.Author.Needs.{needs}
 use borrow.Author.Tests.{eq-eqb, ne-eqb}
-use Rattle.machine.specs.Rows.{row15}
+use Rattle.rules.specs.Rows.{row15}
 use Rattle.machine.proofs.join.row_15.Statement.{statement}
 use Rattle.machine.proofs.join.row_15.Tie as tie
 

@@ -2,7 +2,7 @@
 use mathlib.Core.Path.{sym, _∙_}
 use borrow.Author.Needs.{needs}
 use borrow.Author.Tests.{eq-eqb, ne-eqb}
-use Rattle.machine.specs.Rows.{row16}
+use Rattle.rules.specs.Rows.{row16}
 use Rattle.machine.proofs.join.row_16.Statement.{statement}
 use Rattle.machine.proofs.join.row_16.Tie as tie
 

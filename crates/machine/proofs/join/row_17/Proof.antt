@@ -1,6 +1,6 @@
 -- `machine::join::row_17` meets its contract.
 use borrow.Author.Needs.{needs}
-use Rattle.machine.specs.Rows.{row17}
+use Rattle.rules.specs.Rows.{row17}
 use Rattle.machine.proofs.join.row_17.Statement.{statement}
 use Rattle.machine.proofs.join.row_17.Tie as tie
 

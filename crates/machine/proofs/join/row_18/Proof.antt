@@ -1,6 +1,6 @@
 -- `machine::join::row_18` meets its contract.
 use borrow.Author.Needs.{needs}
-use Rattle.machine.specs.Rows.{row18}
+use Rattle.rules.specs.Rows.{row18}
 use Rattle.machine.proofs.join.row_18.Statement.{statement}
 use Rattle.machine.proofs.join.row_18.Tie as tie
 

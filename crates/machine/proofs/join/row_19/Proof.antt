@@ -1,6 +1,6 @@
 -- `machine::join::row_19` meets its contract.
 use borrow.Author.Needs.{needs}
-use Rattle.machine.specs.Rows.{row19}
+use Rattle.rules.specs.Rows.{row19}
 use Rattle.machine.proofs.join.row_19.Statement.{statement}
 use Rattle.machine.proofs.join.row_19.Tie as tie
 

@@ -1,7 +1,7 @@
 -- `machine::join::row_20` meets its contract.
 use borrow.Author.Needs.{needs}
 use borrow.Author.Tests.{eq-eqb, ne-eqb}
-use Rattle.machine.specs.Rows.{row20}
+use Rattle.rules.specs.Rows.{row20}
 use Rattle.machine.proofs.join.row_20.Statement.{statement}
 use Rattle.machine.proofs.join.row_20.Tie as tie
 

@@ -2,7 +2,7 @@
 use mathlib.Core.Path.{sym, _∙_}
 use borrow.Author.Needs.{needs}
 use borrow.Author.Tests.{eq-eqb, ne-eqb}
-use Rattle.machine.specs.Rows.{row21}
+use Rattle.rules.specs.Rows.{row21}
 use Rattle.machine.proofs.join.row_21.Statement.{statement}
 use Rattle.machine.proofs.join.row_21.Tie as tie
 

@@ -1,6 +1,6 @@
 -- `machine::join::row_22` meets its contract.
 use borrow.Author.Needs.{needs}
-use Rattle.machine.specs.Rows.{row22}
+use Rattle.rules.specs.Rows.{row22}
 use Rattle.machine.proofs.join.row_22.Statement.{statement}
 use Rattle.machine.proofs.join.row_22.Tie as tie
 

@@ -1,6 +1,6 @@
 -- `machine::join::row_23` meets its contract.
 use borrow.Author.Needs.{needs}
-use Rattle.machine.specs.Rows.{row23}
+use Rattle.rules.specs.Rows.{row23}
 use Rattle.machine.proofs.join.row_23.Statement.{statement}
 use Rattle.machine.proofs.join.row_23.Tie as tie
 

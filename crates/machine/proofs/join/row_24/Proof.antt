@@ -1,6 +1,6 @@
 -- `machine::join::row_24` meets its contract.
 use borrow.Author.Needs.{needs}
-use Rattle.machine.specs.Rows.{row24}
+use Rattle.rules.specs.Rows.{row24}
 use Rattle.machine.proofs.join.row_24.Statement.{statement}
 use Rattle.machine.proofs.join.row_24.Tie as tie
 

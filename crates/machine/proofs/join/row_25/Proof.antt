@@ -1,6 +1,6 @@
 -- `machine::join::row_25` meets its contract.
 use borrow.Author.Needs.{needs}
-use Rattle.machine.specs.Rows.{row25}
+use Rattle.rules.specs.Rows.{row25}
 use Rattle.machine.proofs.join.row_25.Statement.{statement}
 use Rattle.machine.proofs.join.row_25.Tie as tie
 

@@ -1,6 +1,6 @@
 -- `machine::neighbour::join` meets its contract.
 use borrow.Author.Needs.{needs}
-use Rattle.machine.specs.Rows.{join}
+use Rattle.rules.specs.Rows.{join}
 use Rattle.machine.proofs.neighbour.join.Statement.{statement}
 use Rattle.machine.proofs.neighbour.join.Tie as tie
 

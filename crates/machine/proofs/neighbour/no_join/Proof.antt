@@ -1,7 +1,7 @@
 -- `machine::neighbour::no_join` meets its contract.
 use borrow.Author.Needs.{needs}
 use borrow.Author.Tests.{eq-eqb, ne-eqb}
-use Rattle.machine.specs.Rows.{noJoin}
+use Rattle.rules.specs.Rows.{noJoin}
 use Rattle.machine.proofs.neighbour.no_join.Statement.{statement}
 use Rattle.machine.proofs.neighbour.no_join.Tie as tie
 

@@ -1,6 +1,6 @@
 -- `machine::neighbour::row_10` meets its contract.
 use borrow.Author.Needs.{needs}
-use Rattle.machine.specs.Rows.{row10}
+use Rattle.rules.specs.Rows.{row10}
 use Rattle.machine.proofs.neighbour.row_10.Statement.{statement}
 use Rattle.machine.proofs.neighbour.row_10.Tie as tie
 

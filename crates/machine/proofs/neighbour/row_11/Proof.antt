@@ -1,6 +1,6 @@
 -- `machine::neighbour::row_11` meets its contract.
 use borrow.Author.Needs.{needs}
-use Rattle.machine.specs.Rows.{row11}
+use Rattle.rules.specs.Rows.{row11}
 use Rattle.machine.proofs.neighbour.row_11.Statement.{statement}
 use Rattle.machine.proofs.neighbour.row_11.Tie as tie
 

@@ -1,7 +1,7 @@
 -- `machine::neighbour::row_12` meets its contract.
 use borrow.Author.Needs.{needs}
 use borrow.Author.Tests.{le-ltb, lt-ltb}
-use Rattle.machine.specs.Rows.{row12}
+use Rattle.rules.specs.Rows.{row12}
 use Rattle.machine.proofs.neighbour.row_12.Statement.{statement}
 use Rattle.machine.proofs.neighbour.row_12.Tie as tie
 

@@ -1,6 +1,6 @@
 -- `machine::neighbour::row_13` meets its contract.
 use borrow.Author.Needs.{needs}
-use Rattle.machine.specs.Rows.{row13}
+use Rattle.rules.specs.Rows.{row13}
 use Rattle.machine.proofs.neighbour.row_13.Statement.{statement}
 use Rattle.machine.proofs.neighbour.row_13.Tie as tie
 

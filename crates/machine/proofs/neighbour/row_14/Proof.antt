@@ -1,6 +1,6 @@
 -- `machine::neighbour::row_14` meets its contract.
 use borrow.Author.Needs.{needs}
-use Rattle.machine.specs.Rows.{row14}
+use Rattle.rules.specs.Rows.{row14}
 use Rattle.machine.proofs.neighbour.row_14.Statement.{statement}
 use Rattle.machine.proofs.neighbour.row_14.Tie as tie
 

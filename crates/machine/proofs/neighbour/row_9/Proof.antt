@@ -1,6 +1,6 @@
 -- `machine::neighbour::row_9` meets its contract.
 use borrow.Author.Needs.{needs}
-use Rattle.machine.specs.Rows.{row9}
+use Rattle.rules.specs.Rows.{row9}
 use Rattle.machine.proofs.neighbour.row_9.Statement.{statement}
 use Rattle.machine.proofs.neighbour.row_9.Tie as tie
 

@@ -1,7 +1,7 @@
 -- `machine::phase::next` meets its contract.
 use borrow.Author.Needs.{needs}
 use borrow.Author.Tests.{ne-eqb}
-use Rattle.machine.specs.Step.{nextOf}
+use Rattle.rules.specs.Step.{nextOf}
 use Rattle.machine.proofs.phase.next.Statement.{statement}
 use Rattle.machine.proofs.phase.next.Tie as tie
 

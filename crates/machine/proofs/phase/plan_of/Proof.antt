@@ -3,7 +3,7 @@ use mathlib.Core.Path.{sym, _∙_}
 use mathlib.Core.Logic.{⊎-elim}
 use native.Mathlib.Omega.{arith}
 use borrow.Author.Needs.{needs}
-use Rattle.machine.specs.Rows.{planOf, rows}
+use Rattle.rules.specs.Rows.{planOf, rows}
 use Rattle.machine.proofs.Idle.{plan-idle, plan-past}
 use Rattle.machine.proofs.phase.plan_of.Statement.{statement}
 use Rattle.machine.proofs.phase.plan_of.Tie as tie

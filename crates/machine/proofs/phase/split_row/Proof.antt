@@ -2,7 +2,7 @@
 use borrow.Author.Needs.{needs}
 use mathlib.Core.Path.{_≡_}
 use native.Mathlib.Omega.{arith}
-use Rattle.machine.specs.Rows.{planOf, rows}
+use Rattle.rules.specs.Rows.{planOf, rows}
 use Rattle.machine.proofs.phase.split_row.Statement.{statement}
 use Rattle.machine.proofs.phase.split_row.Tie as tie
 

@@ -1,7 +1,7 @@
 -- `machine::plan::hangs` meets its contract.
 use borrow.Author.Needs.{needs}
 use borrow.Author.Tests.{eq-eqb, ne-eqb}
-use Rattle.machine.specs.Rows.{hangs}
+use Rattle.rules.specs.Rows.{hangs}
 use Rattle.machine.proofs.plan.hangs.Statement.{statement}
 use Rattle.machine.proofs.plan.hangs.Tie as tie
 

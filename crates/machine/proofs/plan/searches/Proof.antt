@@ -1,6 +1,6 @@
 -- `machine::plan::searches` meets its contract.
 use borrow.Author.Needs.{needs}
-use Rattle.machine.specs.Rows.{searches}
+use Rattle.rules.specs.Rows.{searches}
 use Rattle.machine.proofs.plan.searches.Statement.{statement}
 use Rattle.machine.proofs.plan.searches.Tie as tie
 

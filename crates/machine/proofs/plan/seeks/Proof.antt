@@ -1,6 +1,6 @@
 -- `machine::plan::seeks` meets its contract.
 use borrow.Author.Needs.{needs}
-use Rattle.machine.specs.Rows.{seeks}
+use Rattle.rules.specs.Rows.{seeks}
 use Rattle.machine.proofs.plan.seeks.Statement.{statement}
 use Rattle.machine.proofs.plan.seeks.Tie as tie
 

@@ -1,6 +1,6 @@
 -- `machine::range::body_in_range` meets its contract.
 use borrow.Author.Needs.{needs}
-use Rattle.machine.specs.Range.{bodyInRange}
+use Rattle.rules.specs.Range.{bodyInRange}
 use Rattle.machine.proofs.range.body_in_range.Statement.{statement}
 use Rattle.machine.proofs.range.body_in_range.Tie as tie
 

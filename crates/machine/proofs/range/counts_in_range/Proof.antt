@@ -1,5 +1,5 @@
 -- `machine::range::counts_in_range` meets its contract.
-use Rattle.machine.specs.Range.{countsInRange}
+use Rattle.rules.specs.Range.{countsInRange}
 use Rattle.machine.proofs.range.counts_in_range.Statement.{statement}
 use Rattle.machine.proofs.range.counts_in_range.Tie as tie
 

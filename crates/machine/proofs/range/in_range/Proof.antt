@@ -1,6 +1,6 @@
 -- `machine::range::in_range` meets its contract.
 use borrow.Author.Needs.{needs}
-use Rattle.machine.specs.Range.{inRange}
+use Rattle.rules.specs.Range.{inRange}
 use Rattle.machine.proofs.range.in_range.Statement.{statement}
 use Rattle.machine.proofs.range.in_range.Tie as tie
 

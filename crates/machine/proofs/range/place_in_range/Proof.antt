@@ -1,6 +1,6 @@
 -- `machine::range::place_in_range` meets its contract.
 use borrow.Author.Needs.{needs}
-use Rattle.machine.specs.Range.{placeInRange}
+use Rattle.rules.specs.Range.{placeInRange}
 use Rattle.machine.proofs.range.place_in_range.Statement.{statement}
 use Rattle.machine.proofs.range.place_in_range.Tie as tie
 

@@ -7,9 +7,9 @@ use Prim.Native.Nat.{ℕ, _≤_, _-_}
 use native.Mathlib.Omega.{arith}
 use lib.ListN.{length, drop}
 use borrow.Author.Tests.{not-true, not-false}
-use Rattle.machine.specs.State.{zeroPlace}
-use Rattle.machine.specs.Range.{placeInRange, placesInRange}
-use Rattle.machine.specs.declared.state.Place.{Place}
+use Rattle.rules.specs.State.{zeroPlace}
+use Rattle.rules.specs.Range.{placeInRange, placesInRange}
+use Rattle.rules.specs.declared.state.Place.{Place}
 use Rattle.machine.proofs.Every.{fails, passes, done}
 use Rattle.machine.proofs.range.places_in_range.Statement.{statement}
 use Rattle.machine.proofs.range.places_in_range.Tie as tie

@@ -1,5 +1,5 @@
 -- `machine::range::register_in_range` meets its contract.
-use Rattle.machine.specs.Range.{registerInRange}
+use Rattle.rules.specs.Range.{registerInRange}
 use Rattle.machine.proofs.range.register_in_range.Statement.{statement}
 use Rattle.machine.proofs.range.register_in_range.Tie as tie
 

@@ -1,6 +1,6 @@
 -- `machine::range::registers_in_range` meets its contract.
 use borrow.Author.Needs.{needs}
-use Rattle.machine.specs.Range.{registersInRange}
+use Rattle.rules.specs.Range.{registersInRange}
 use Rattle.machine.proofs.range.registers_in_range.Statement.{statement}
 use Rattle.machine.proofs.range.registers_in_range.Tie as tie
 

@@ -1,5 +1,5 @@
 -- `machine::range::settings_in_range` meets its contract.
-use Rattle.machine.specs.Range.{settingsInRange}
+use Rattle.rules.specs.Range.{settingsInRange}
 use Rattle.machine.proofs.range.settings_in_range.Statement.{statement}
 use Rattle.machine.proofs.range.settings_in_range.Tie as tie
 

@@ -1,6 +1,6 @@
 -- `machine::range::thread_in_range` meets its contract.
 use borrow.Author.Needs.{needs}
-use Rattle.machine.specs.Range.{threadInRange}
+use Rattle.rules.specs.Range.{threadInRange}
 use Rattle.machine.proofs.range.thread_in_range.Statement.{statement}
 use Rattle.machine.proofs.range.thread_in_range.Tie as tie
 

@@ -7,9 +7,9 @@ use Prim.Native.Nat.{ℕ, _≤_, _-_}
 use native.Mathlib.Omega.{arith}
 use lib.ListN.{length, drop}
 use borrow.Author.Tests.{not-true, not-false}
-use Rattle.machine.specs.State.{zeroThread}
-use Rattle.machine.specs.Range.{threadInRange, threadsInRange}
-use Rattle.machine.specs.declared.state.Thread.{Thread}
+use Rattle.rules.specs.State.{zeroThread}
+use Rattle.rules.specs.Range.{threadInRange, threadsInRange}
+use Rattle.rules.specs.declared.state.Thread.{Thread}
 use Rattle.machine.proofs.Every.{fails, passes, done}
 use Rattle.machine.proofs.range.threads_in_range.Statement.{statement}
 use Rattle.machine.proofs.range.threads_in_range.Tie as tie

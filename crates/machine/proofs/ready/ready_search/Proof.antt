@@ -2,7 +2,7 @@
 use borrow.Author.Needs.{needs}
 use mathlib.Core.Path.{_≡_}
 use native.Mathlib.Omega.{arith}
-use Rattle.machine.specs.Rows.{needs as rowNeeds}
+use Rattle.rules.specs.Rows.{needs as rowNeeds}
 use Rattle.machine.proofs.ready.ready_search.Statement.{statement}
 use Rattle.machine.proofs.ready.ready_search.Tie as tie
 

@@ -3,7 +3,7 @@ use mathlib.Core.Path.{sym, ap}
 use mathlib.Core.Bool.{not}
 use native.Mathlib.Omega.{arith}
 use borrow.Author.Needs.{needs}
-use Rattle.machine.specs.Rows.{needs as rowNeeds, stuck}
+use Rattle.rules.specs.Rows.{needs as rowNeeds, stuck}
 use Rattle.machine.proofs.Idle.{ready-idle, ready-past}
 use Rattle.machine.proofs.ready.stuck.Statement.{statement}
 use Rattle.machine.proofs.ready.stuck.Tie as tie

@@ -1,6 +1,6 @@
 -- `machine::search::row_1` meets its contract.
 use borrow.Author.Needs.{needs}
-use Rattle.machine.specs.Rows.{row1}
+use Rattle.rules.specs.Rows.{row1}
 use Rattle.machine.proofs.search.row_1.Statement.{statement}
 use Rattle.machine.proofs.search.row_1.Tie as tie
 

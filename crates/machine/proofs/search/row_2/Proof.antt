@@ -1,6 +1,6 @@
 -- `machine::search::row_2` meets its contract.
 use borrow.Author.Needs.{needs}
-use Rattle.machine.specs.Rows.{row2}
+use Rattle.rules.specs.Rows.{row2}
 use Rattle.machine.proofs.search.row_2.Statement.{statement}
 use Rattle.machine.proofs.search.row_2.Tie as tie
 

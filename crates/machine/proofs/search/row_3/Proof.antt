@@ -1,6 +1,6 @@
 -- `machine::search::row_3` meets its contract.
 use borrow.Author.Needs.{needs}
-use Rattle.machine.specs.Rows.{row3}
+use Rattle.rules.specs.Rows.{row3}
 use Rattle.machine.proofs.search.row_3.Statement.{statement}
 use Rattle.machine.proofs.search.row_3.Tie as tie
 

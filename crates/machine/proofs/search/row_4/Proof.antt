@@ -1,6 +1,6 @@
 -- `machine::search::row_4` meets its contract.
 use borrow.Author.Needs.{needs}
-use Rattle.machine.specs.Rows.{row4}
+use Rattle.rules.specs.Rows.{row4}
 use Rattle.machine.proofs.search.row_4.Statement.{statement}
 use Rattle.machine.proofs.search.row_4.Tie as tie
 

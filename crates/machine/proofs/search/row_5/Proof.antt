@@ -1,6 +1,6 @@
 -- `machine::search::row_5` meets its contract.
 use borrow.Author.Needs.{needs}
-use Rattle.machine.specs.Rows.{row5}
+use Rattle.rules.specs.Rows.{row5}
 use Rattle.machine.proofs.search.row_5.Statement.{statement}
 use Rattle.machine.proofs.search.row_5.Tie as tie
 

@@ -1,6 +1,6 @@
 -- `machine::split::no_split` meets its contract.
 use borrow.Author.Needs.{needs}
-use Rattle.machine.specs.Rows.{noSplit}
+use Rattle.rules.specs.Rows.{noSplit}
 use Rattle.machine.proofs.split.no_split.Statement.{statement}
 use Rattle.machine.proofs.split.no_split.Tie as tie
 

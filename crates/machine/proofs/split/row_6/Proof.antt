@@ -1,7 +1,7 @@
 -- `machine::split::row_6` meets its contract.
 use borrow.Author.Needs.{needs}
 use borrow.Author.Tests.{le-ltb, lt-ltb}
-use Rattle.machine.specs.Rows.{row6}
+use Rattle.rules.specs.Rows.{row6}
 use Rattle.machine.proofs.split.row_6.Statement.{statement}
 use Rattle.machine.proofs.split.row_6.Tie as tie
 

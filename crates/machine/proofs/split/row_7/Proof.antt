@@ -1,6 +1,6 @@
 -- `machine::split::row_7` meets its contract.
 use borrow.Author.Needs.{needs}
-use Rattle.machine.specs.Rows.{row7}
+use Rattle.rules.specs.Rows.{row7}
 use Rattle.machine.proofs.split.row_7.Statement.{statement}
 use Rattle.machine.proofs.split.row_7.Tie as tie
 

@@ -1,6 +1,6 @@
 -- `machine::split::row_8` meets its contract.
 use borrow.Author.Needs.{needs}
-use Rattle.machine.specs.Rows.{row8}
+use Rattle.rules.specs.Rows.{row8}
 use Rattle.machine.proofs.split.row_8.Statement.{statement}
 use Rattle.machine.proofs.split.row_8.Tie as tie
 

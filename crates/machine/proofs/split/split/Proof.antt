@@ -1,6 +1,6 @@
 -- `machine::split::split` meets its contract.
 use borrow.Author.Needs.{needs}
-use Rattle.machine.specs.Rows.{split}
+use Rattle.rules.specs.Rows.{split}
 use Rattle.machine.proofs.split.split.Statement.{statement}
 use Rattle.machine.proofs.split.split.Tie as tie
 

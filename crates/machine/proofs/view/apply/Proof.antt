@@ -5,9 +5,9 @@ use Prim.Native.Nat.{_<_, _≤_}
 use lib.ListN.{set}
 use borrow.Author.Tests.{lt-ltb, le-ltb}
 use borrow.Author.Needs.{needs}
-use Rattle.machine.specs.declared.state.State.{State}
-use Rattle.machine.specs.declared.row.Store.{Store}
-use Rattle.machine.specs.Step.{put, apply}
+use Rattle.rules.specs.declared.state.State.{State}
+use Rattle.rules.specs.declared.row.Store.{Store}
+use Rattle.rules.specs.Step.{put, apply}
 use Rattle.machine.proofs.view.apply.Statement.{statement}
 use Rattle.machine.proofs.view.apply.Tie as tie
 

@@ -1,7 +1,7 @@
 -- `machine::view::look` meets its contract.
 use borrow.Author.Needs.{needs}
-use Rattle.machine.specs.State.{placeAt, threadAt, zeroThread}
-use Rattle.machine.specs.Step.{viewBefore}
+use Rattle.rules.specs.State.{placeAt, threadAt}
+use Rattle.rules.specs.Step.{viewBefore}
 use Rattle.machine.proofs.view.look.Statement.{statement}
 use Rattle.machine.proofs.view.look.Tie as tie
 
@@ -72,7 +72,7 @@ zero-place-requires : tie.Need-zero-place-requires
 zero-place-requires c κs = search needs
 
 returns : tie.Need-returns
-unfolding viewBefore placeAt threadAt zeroThread
+unfolding viewBefore placeAt threadAt
 returns c = simp (c .zero-place .ensures)
 
 pub look-spec : {M : Type 1} → statement M

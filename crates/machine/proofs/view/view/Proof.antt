@@ -1,7 +1,7 @@
 -- `machine::view::view` meets its contract.
 use borrow.Author.Needs.{needs}
-use Rattle.machine.specs.State.{placeAt}
-use Rattle.machine.specs.Step.{viewOf}
+use Rattle.rules.specs.State.{placeAt}
+use Rattle.rules.specs.Step.{viewOf}
 use Rattle.machine.proofs.view.view.Statement.{statement}
 use Rattle.machine.proofs.view.view.Tie as tie
 

@@ -4,15 +4,15 @@ use mathlib.Core.List.{List}
 use Prim.Native.Nat.{ℕ, zero, suc, _-_, _%_}
 use lib.ListN.{getD, set, replicate}
 use Rattle.keys.specs.Keys.{union}
-use Rattle.machine.specs.State.{zeroPlace}
-use Rattle.machine.specs.Range.{inRange}
-use Rattle.machine.specs.declared.state.Body.{Body}
-use Rattle.machine.specs.declared.state.Body.the-variants.{Base, Route}
-use Rattle.machine.specs.declared.state.Place.{Place}
-use Rattle.machine.specs.declared.state.State.{State}
-use Rattle.machine.specs.declared.list.Met.{Met}
-use Rattle.machine.specs.declared.answer.ListReply.{ListReply}
-use Rattle.machine.specs.declared.answer.ListReply.the-variants.{Keys, Refused}
+use Rattle.rules.specs.State.{zeroPlace}
+use Rattle.rules.specs.Range.{inRange}
+use Rattle.rules.specs.declared.state.Body.{Body}
+use Rattle.rules.specs.declared.state.Body.the-variants.{Base, Route}
+use Rattle.rules.specs.declared.state.Place.{Place}
+use Rattle.rules.specs.declared.state.State.{State}
+use Rattle.rules.specs.declared.list.Met.{Met}
+use Rattle.rules.specs.declared.answer.ListReply.{ListReply}
+use Rattle.rules.specs.declared.answer.ListReply.the-variants.{Keys, Refused}
 
 -- nothing is met yet
 unfoldable pub unmet : Met

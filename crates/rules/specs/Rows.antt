@@ -6,15 +6,15 @@ use Prim.Native.Nat.{ℕ, _+_}
 use lib.Dec.{ltb, leb, eqb}
 use lib.ListN.{getD}
 use Rattle.keys.specs.Keys.{has, union, below, from, size, splitKey}
-use Rattle.machine.specs.State.{none, zeroStatistics, freshThread, newNode, zeroPlace}
-use Rattle.machine.specs.Registers.{atPhase, setPrev, setBase, setWalk, setNeighbour, setGrandparent, setMade, setSide, setAnswer}
-use Rattle.machine.specs.Places.{isRoute, isBase, keysOf, routeKey, childOn, childBy, takesPlace, isFree, withLock, tried, taken3, taken4, release, zero, invalid, withKeys, answerOf, keysAfter}
-use Rattle.machine.specs.declared.state.Body.the-variants.{Base, Route}
-use Rattle.machine.specs.declared.state.Place.{Place}
-use Rattle.machine.specs.declared.state.Thread.{Thread}
-use Rattle.machine.specs.declared.row.View.{View}
-use Rattle.machine.specs.declared.row.Store.{Store}
-use Rattle.machine.specs.declared.row.Plan.{Plan}
+use Rattle.rules.specs.State.{none, zeroStatistics, freshThread, newNode, zeroPlace}
+use Rattle.rules.specs.Registers.{atPhase, setPrev, setBase, setWalk, setNeighbour, setGrandparent, setMade, setSide, setAnswer}
+use Rattle.rules.specs.Places.{isRoute, isBase, keysOf, routeKey, childOn, childBy, takesPlace, isFree, withLock, tried, taken3, taken4, release, zero, invalid, withKeys, answerOf, keysAfter}
+use Rattle.rules.specs.declared.state.Body.the-variants.{Base, Route}
+use Rattle.rules.specs.declared.state.Place.{Place}
+use Rattle.rules.specs.declared.state.Thread.{Thread}
+use Rattle.rules.specs.declared.row.View.{View}
+use Rattle.rules.specs.declared.row.Store.{Store}
+use Rattle.rules.specs.declared.row.Plan.{Plan}
 
 -- ---- what a row may change
 

@@ -3,12 +3,12 @@ use mathlib.Core.Bool.{Bool, true, false, cond, not, _&&_}
 use Prim.Native.Nat.{ℕ, _+_, _-_, min}
 use lib.Dec.{ltb, eqb}
 use Rattle.keys.specs.Keys.{has, with, without}
-use Rattle.machine.specs.State.{none, nobody, zeroStatistics, topStatistics}
-use Rattle.machine.specs.declared.state.Settings.{Settings}
-use Rattle.machine.specs.declared.state.Lock.{Lock}
-use Rattle.machine.specs.declared.state.Body.{Body}
-use Rattle.machine.specs.declared.state.Body.the-variants.{Base, Route}
-use Rattle.machine.specs.declared.state.Place.{Place}
+use Rattle.rules.specs.State.{none, nobody, zeroStatistics, topStatistics}
+use Rattle.rules.specs.declared.state.Settings.{Settings}
+use Rattle.rules.specs.declared.state.Lock.{Lock}
+use Rattle.rules.specs.declared.state.Body.{Body}
+use Rattle.rules.specs.declared.state.Body.the-variants.{Base, Route}
+use Rattle.rules.specs.declared.state.Place.{Place}
 
 abbrev pub isRouteBody : Body → Bool
 isRouteBody (Base ks) = false

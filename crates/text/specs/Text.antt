@@ -1,9 +1,13 @@
 -- Bytes of schedules and sheets: numbers, fields, lines.
 use mathlib.Core.Bool.{Bool, true, false, cond, not, _&&_, _||_}
 use mathlib.Core.List.{List, [], _∷_, _++_}
+use mathlib.Core.Path.{_≡_}
 use Prim.Native.Nat.{ℕ, zero, suc, _+_, _-_, _*_, _/_, _%_}
 use lib.Dec.{ltb, leb, eqb}
 use lib.ListN.{length, getD}
+use lib.Seq.{sets}
+use Rattle.keys.specs.Keys.{has}
+use Rattle.text.specs.declared.read.Number as Number
 
 abbrev pub tab : ℕ
 tab = 9
@@ -15,6 +19,11 @@ abbrev pub minus : ℕ
 minus = 45
 
 -- ---- reading
+
+-- how many bytes stand before the first b; all of them where there is no b
+unfoldable pub until : ℕ → List ℕ → ℕ
+until b [] = 0
+until b (x ∷ xs) = cond (eqb x b) 0 (suc (until b xs))
 
 -- b in front of the first of some parts
 unfoldable pub onto : ℕ → List (List ℕ) → List (List ℕ)
@@ -30,6 +39,10 @@ fields (b ∷ bs) = cond (eqb b tab) ([] ∷ fields bs) (onto b (fields bs))
 unfoldable pub lines : List ℕ → List (List ℕ)
 lines [] = []
 lines (b ∷ bs) = cond (eqb b newline) ([] ∷ lines bs) (onto b (lines bs))
+
+-- a part that is one letter
+unfoldable pub isLetter : ℕ → List ℕ → Bool
+isLetter b f = eqb (length f) 1 && eqb (getD f 0 0) b
 
 unfoldable pub digits : List ℕ → Bool
 digits [] = true
@@ -47,12 +60,20 @@ valueFrom n (b ∷ bs) = valueFrom (n * 10 + (b - 48)) bs
 unfoldable pub value : List ℕ → ℕ
 value f = valueFrom 0 f
 
+-- a value, or a slip where the test fails
+unfoldable pub valueIf : Bool → ℕ → Number.Number
+valueIf t v = cond t (Number.the-variants.Value v) Number.the-variants.Slip
+
+-- what a part says as a number
+abbrev pub numberOf : List ℕ → Number.Number
+numberOf f = valueIf (isNumber f) (value f)
+
 -- ---- writing
 
 -- the digits of n; the first number is how many they are at most
 unfoldable pub decimalOf : ℕ → ℕ → List ℕ
 decimalOf zero n = []
-decimalOf (suc d) n = elim (ltb n 10) [ true ↦ (48 + n) ∷ [] | false ↦ decimalOf d (n / 10) ++ ((48 + n % 10) ∷ []) ]
+decimalOf (suc d) n = cond (ltb n 10) ((48 + n) ∷ []) (decimalOf d (n / 10) ++ ((48 + n % 10) ∷ []))
 
 -- a number of the sheet: none is over 7 digits
 unfoldable pub decimal : ℕ → List ℕ
@@ -72,7 +93,24 @@ unfoldable pub commas : List ℕ → List ℕ
 commas [] = []
 commas (n ∷ ns) = 44 ∷ (decimal n ++ commas ns)
 
+-- the key k behind a comma, where the set m has it
+unfoldable pub keyText : ℕ → ℕ → List ℕ
+keyText m k = cond (has m k) (44 ∷ decimal k) []
+
 -- "parted by commas, `-` if none"
 unfoldable pub keysText : List ℕ → List ℕ
 keysText [] = minus ∷ []
 keysText (n ∷ ns) = decimal n ++ commas ns
+
+-- xs was written from place at on, and no other byte changed: the bytes l became l′, and r is the place behind xs
+pub record Wrote (l : List ℕ) (at : ℕ) (xs : List ℕ) (r : ℕ) (l′ : List ℕ) : Type 0 where
+  pub next : r ≡ at + length xs
+  pub bytes : l′ ≡ sets l at xs
+
+-- a line where there is room for the most that it can take, and nothing where there is not
+unfoldable pub fitted : ℕ → ℕ → List ℕ → List ℕ
+fitted most room line = cond (ltb room most) [] line
+
+-- a sheet line that ends in keys
+unfoldable pub keysLine : ℕ → List ℕ → List ℕ → List ℕ
+keysLine letter ns ks = letter ∷ (tabbed ns ++ (tab ∷ (keysText ks ++ (newline ∷ []))))

@@ -2,11 +2,11 @@
 -- which the sheet has them.
 use mathlib.Core.List.{List, [], _∷_}
 use Prim.Native.Nat.{ℕ}
-use Rattle.machine.specs.declared.answer.FreshReply as FreshReply
-use Rattle.machine.specs.declared.answer.BeginReply as BeginReply
-use Rattle.machine.specs.declared.answer.StepReply as StepReply
-use Rattle.machine.specs.declared.answer.RunReply as RunReply
-use Rattle.machine.specs.declared.answer.ListReply as ListReply
+use Rattle.rules.specs.declared.answer.FreshReply as FreshReply
+use Rattle.rules.specs.declared.answer.BeginReply as BeginReply
+use Rattle.rules.specs.declared.answer.StepReply as StepReply
+use Rattle.rules.specs.declared.answer.RunReply as RunReply
+use Rattle.rules.specs.declared.answer.ListReply as ListReply
 
 abbrev pub freshNumber : FreshReply.FreshReply → ℕ
 freshNumber FreshReply.the-variants.Made = 0

@@ -4,13 +4,13 @@ use mathlib.Core.Bool.{Bool, true, cond, not, _&&_, _||_}
 use mathlib.Core.List.{List, [], _∷_}
 use Prim.Native.Nat.{ℕ, zero, suc}
 use lib.Dec.{ltb, leb, eqb}
-use Rattle.machine.specs.State.{none, nobody, topStatistics}
-use Rattle.machine.specs.declared.state.Settings.{Settings}
-use Rattle.machine.specs.declared.state.Body.{Body}
-use Rattle.machine.specs.declared.state.Body.the-variants.{Base, Route}
-use Rattle.machine.specs.declared.state.Place.{Place}
-use Rattle.machine.specs.declared.state.Thread.{Thread}
-use Rattle.machine.specs.declared.state.State.{State}
+use Rattle.rules.specs.State.{none, nobody, topStatistics}
+use Rattle.rules.specs.declared.state.Settings.{Settings}
+use Rattle.rules.specs.declared.state.Body.{Body}
+use Rattle.rules.specs.declared.state.Body.the-variants.{Base, Route}
+use Rattle.rules.specs.declared.state.Place.{Place}
+use Rattle.rules.specs.declared.state.Thread.{Thread}
+use Rattle.rules.specs.declared.state.State.{State}
 
 -- "succ 0 to 1,000; fail 0 to 1,000; min −1,000,000 to 0; max 0 to 1,000,000"
 unfoldable pub settingsInRange : Settings → Bool

@@ -3,13 +3,13 @@ use mathlib.Core.Bool.{Bool, true, false}
 use mathlib.Core.List.{List}
 use Prim.Native.Nat.{ℕ, _%_}
 use lib.ListN.{getD, set, replicate}
-use Rattle.machine.specs.declared.state.Settings.{Settings}
-use Rattle.machine.specs.declared.state.Lock.{Lock}
-use Rattle.machine.specs.declared.state.Body.{Body}
-use Rattle.machine.specs.declared.state.Body.the-variants.{Base, Route}
-use Rattle.machine.specs.declared.state.Place.{Place}
-use Rattle.machine.specs.declared.state.Thread.{Thread}
-use Rattle.machine.specs.declared.state.State.{State}
+use Rattle.rules.specs.declared.state.Settings.{Settings}
+use Rattle.rules.specs.declared.state.Lock.{Lock}
+use Rattle.rules.specs.declared.state.Body.{Body}
+use Rattle.rules.specs.declared.state.Body.the-variants.{Base, Route}
+use Rattle.rules.specs.declared.state.Place.{Place}
+use Rattle.rules.specs.declared.state.Thread.{Thread}
+use Rattle.rules.specs.declared.state.State.{State}
 
 -- a node register that names no node
 abbrev pub none : ℕ

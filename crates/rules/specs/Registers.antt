@@ -1,7 +1,7 @@
 -- A thread with one register set. "Registers and nodes not named stay."
 use mathlib.Core.Bool.{Bool}
 use Prim.Native.Nat.{ℕ}
-use Rattle.machine.specs.declared.state.Thread.{Thread}
+use Rattle.rules.specs.declared.state.Thread.{Thread}
 
 abbrev pub atPhase : ℕ → Thread → Thread
 atPhase x t =

@@ -4,26 +4,26 @@ use mathlib.Core.List.{List}
 use Prim.Native.Nat.{ℕ, zero, suc, _+_}
 use lib.Dec.{ltb, leb, eqb}
 use lib.ListN.{set}
-use Rattle.machine.specs.State.{none, fresh, zeroPlace, placeAt, threadAt}
-use Rattle.machine.specs.Registers.{setOperation}
-use Rattle.machine.specs.Places.{childOn, childBy}
-use Rattle.machine.specs.Rows.{farSide, nearChild, planOf, stuck}
-use Rattle.machine.specs.Range.{settingsInRange, inRange}
-use Rattle.machine.specs.declared.state.Settings.{Settings}
-use Rattle.machine.specs.declared.state.Place.{Place}
-use Rattle.machine.specs.declared.state.Thread.{Thread}
-use Rattle.machine.specs.declared.state.State.{State}
-use Rattle.machine.specs.declared.row.View.{View}
-use Rattle.machine.specs.declared.row.Store.{Store}
-use Rattle.machine.specs.declared.row.Plan.{Plan}
-use Rattle.machine.specs.declared.answer.Fresh.{Fresh}
-use Rattle.machine.specs.declared.answer.FreshReply as FreshReply
-use Rattle.machine.specs.declared.answer.Begin.{Begin}
-use Rattle.machine.specs.declared.answer.BeginReply as BeginReply
-use Rattle.machine.specs.declared.answer.Step.{Step}
-use Rattle.machine.specs.declared.answer.StepReply as StepReply
-use Rattle.machine.specs.declared.answer.Run.{Run}
-use Rattle.machine.specs.declared.answer.RunReply as RunReply
+use Rattle.rules.specs.State.{none, fresh, zeroPlace, placeAt, threadAt}
+use Rattle.rules.specs.Registers.{setOperation}
+use Rattle.rules.specs.Places.{childOn, childBy}
+use Rattle.rules.specs.Rows.{farSide, nearChild, planOf, stuck}
+use Rattle.rules.specs.Range.{settingsInRange, inRange}
+use Rattle.rules.specs.declared.state.Settings.{Settings}
+use Rattle.rules.specs.declared.state.Place.{Place}
+use Rattle.rules.specs.declared.state.Thread.{Thread}
+use Rattle.rules.specs.declared.state.State.{State}
+use Rattle.rules.specs.declared.row.View.{View}
+use Rattle.rules.specs.declared.row.Store.{Store}
+use Rattle.rules.specs.declared.row.Plan.{Plan}
+use Rattle.rules.specs.declared.answer.Fresh.{Fresh}
+use Rattle.rules.specs.declared.answer.FreshReply as FreshReply
+use Rattle.rules.specs.declared.answer.Begin.{Begin}
+use Rattle.rules.specs.declared.answer.BeginReply as BeginReply
+use Rattle.rules.specs.declared.answer.Step.{Step}
+use Rattle.rules.specs.declared.answer.StepReply as StepReply
+use Rattle.rules.specs.declared.answer.Run.{Run}
+use Rattle.rules.specs.declared.answer.RunReply as RunReply
 
 -- ---- fresh
 

@@ -1,0 +1,3 @@
+// The bytes of schedules and sheets.
+pub mod read;
+pub mod write;
