@@ -10,6 +10,7 @@ mod plan;
 pub mod range;
 mod ready;
 mod register;
+pub mod run;
 mod search;
 mod split;
 mod view;

@@ -570,7 +570,7 @@ impl Maker {
     }
 
     /// Two threads meet on the base of a key: one holds it, the other waits and
-    /// takes it with fail added. True if the second stands at phase 6.
+    /// takes it with fail added. Gives the second if it then stands at phase 6.
     fn contended(&mut self, key: usize, operation: u32, second_key: usize) -> Option<usize> {
         let a = self.idle_thread()?;
         self.begin(a, LOOKUP, key);

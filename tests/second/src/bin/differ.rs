@@ -73,7 +73,8 @@ fn wishes() -> Wishes {
 /// PROGRAM is a file, or a command with its arguments parted by blanks.
 fn words_of(program: &str) -> Vec<String> {
     if Path::new(program).is_file() {
-        return vec![program.to_string()];
+        let here = Path::new(".").join(program);
+        return vec![here.to_string_lossy().into_owned()];
     }
     let words: Vec<String> = program.split_whitespace().map(|w| w.to_string()).collect();
     if words.is_empty() {

@@ -4,7 +4,7 @@ use mathlib.Core.Path.{_≡_, refl}
 use Prim.Native.Nat.{ℕ, zero, suc}
 use lib.Dec.{ltb}
 use lib.ListN.{length, getD, set, replicate, length-set}
-use Rattle.range.specs.Tests.{pick}
+use Rattle.states.specs.Tests.{pick}
 use Rattle.rules.specs.State.{none, zeroPlace}
 use Rattle.rules.specs.Step.{put}
 use Rattle.rules.specs.declared.state.Place.{Place}

@@ -4,7 +4,7 @@ use mathlib.Core.Path.{_≡_, refl}
 use Prim.Native.Nat.{ℕ, zero, suc, _≤_, _<_}
 use borrow.Author.Tests.{ltb-false, leb-false, not-false}
 use lib.Dec.{eqb, leb, ltb}
-use Rattle.range.specs.Tests.{pick-by}
+use Rattle.states.specs.Tests.{pick-by}
 use Rattle.rules.specs.State.{threadAt}
 use Rattle.rules.specs.Rows.{stuck}
 use Rattle.rules.specs.Range.{inRange}

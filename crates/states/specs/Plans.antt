@@ -2,8 +2,8 @@
 use mathlib.Core.Logic.{inl, inr}
 use Prim.Native.Nat.{ℕ, _≤_, _<_}
 use native.Mathlib.Nat.{le-trans}
-use Rattle.range.specs.Lists.{each-set, each-put}
-use Rattle.range.specs.Facts.{PlaceOk, RegisterOk, ThreadOk, InRange}
+use Rattle.states.specs.Lists.{each-set, each-put}
+use Rattle.states.specs.Facts.{PlaceOk, RegisterOk, ThreadOk, InRange}
 use Rattle.rules.specs.State.{zeroThread, placeAt, threadAt}
 use Rattle.rules.specs.Step.{viewBefore, viewOf, apply}
 use Rattle.rules.specs.declared.state.Place.{Place}

@@ -8,11 +8,11 @@ use borrow.Author.Tests.{ltb-true, ltb-false, leb-true}
 use lib.Dec.{T, eqb, leb, ltb}
 use Rattle.keys.specs.Keys.{has, size}
 use Rattle.keys.specs.Sizes.{split-small}
-use Rattle.range.specs.Tests.{pick-by, pick, both}
-use Rattle.range.specs.Facts.{PlaceOk}
-use Rattle.range.specs.Plans.{ViewOk, PlanOk, thread-more}
-use Rattle.range.specs.Pieces.{phase-ok, prev-ok, made-ok, answer-ok, fresh-thread-ok, answer-small, base-body-ok, new-ok, taken3-ok, taken4-ok, release-ok, zero-ok, invalid-ok, keys-ok, child-ok}
-use Rattle.range.specs.Common.{named, reg, nothing, stores1-ok, only-ok, goes-ok, hangs-ok, searches-ok}
+use Rattle.states.specs.Tests.{pick-by, pick, both}
+use Rattle.states.specs.Facts.{PlaceOk}
+use Rattle.states.specs.Plans.{ViewOk, PlanOk, thread-more}
+use Rattle.states.specs.Pieces.{phase-ok, prev-ok, made-ok, answer-ok, fresh-thread-ok, answer-small, base-body-ok, new-ok, taken3-ok, taken4-ok, release-ok, zero-ok, invalid-ok, keys-ok, child-ok}
+use Rattle.states.specs.Common.{named, reg, nothing, stores1-ok, only-ok, goes-ok, hangs-ok, searches-ok}
 use Rattle.rules.specs.State.{none}
 use Rattle.rules.specs.Registers.{atPhase}
 use Rattle.rules.specs.Places.{isRoute, isFree, keysOf, release, withKeys, answerOf}

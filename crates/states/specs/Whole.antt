@@ -7,10 +7,10 @@ use lib.Dec.{eqb, ltb}
 use lib.ListN.{length, getD, replicate, length-set, length-replicate}
 use Rattle.keys.specs.Keys.{size}
 use Rattle.keys.specs.Laws.{with-lt, without-lt, union-lt, below-lt, from-lt}
-use Rattle.range.specs.Tests.{pick}
-use Rattle.range.specs.Lists.{each-set, each-replicate, each-put, length-put}
-use Rattle.range.specs.Phase.{Each, end, _then_, by-phase}
-use Rattle.range.specs.Calls.{begin-state, step-state, run-state}
+use Rattle.states.specs.Tests.{pick}
+use Rattle.states.specs.Lists.{each-set, each-replicate, each-put, length-put}
+use Rattle.states.specs.Phase.{Each, end, _then_, by-phase}
+use Rattle.states.specs.Calls.{begin-state, step-state, run-state}
 use Rattle.rules.specs.State.{none, unmade, newNode, freshThread, fresh, zeroPlace, placeAt}
 use Rattle.rules.specs.Places.{keysOf, keysOfBody, swapBody, takesPlace, isFree, keysAfter}
 use Rattle.rules.specs.Rows.{hangs, searches, seeks, aboveMax, belowMin, keysThen, commits, decides, noSplit, split, noJoin, join, row0, row1, row2, row3, row4, row5, row6, row7, row8, row9, row10, row11, row12, row13, row14, row15, row16, row17, row18, row19, row20, row21, row22, row23, row24, row25, rows, planOf}

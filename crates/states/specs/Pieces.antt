@@ -6,9 +6,9 @@ use Prim.Native.Nat.{ℕ, _≤_, _<_}
 use native.Mathlib.Omega.{arith}
 use lib.Dec.{T, eqb, leb, lit≤}
 use lib.ListN.{getD, set}
-use Rattle.range.specs.Tests.{pick}
-use Rattle.range.specs.Facts.{LockOk, BodyOk, PlaceOk, place-facts, RegisterOk, registersOf, ThreadOk, thread-facts}
-use Rattle.range.specs.Lists.{each-set}
+use Rattle.states.specs.Tests.{pick}
+use Rattle.states.specs.Facts.{LockOk, BodyOk, PlaceOk, place-facts, RegisterOk, registersOf, ThreadOk, thread-facts}
+use Rattle.states.specs.Lists.{each-set}
 use Rattle.rules.specs.State.{none, freshThread, newNode, zeroPlace}
 use Rattle.rules.specs.Registers.{atPhase, setPrev, setBase, setWalk, setNeighbour, setGrandparent, setMade, setSide, setAnswer, setOperation}
 use Rattle.rules.specs.Places.{isRouteBody, childOnBody, childOn, swapBody, takesPlace, withLock, tried, taken3, taken4, released, zeroed, release, zero, invalid, withKeys, answerOf}

@@ -5,15 +5,15 @@ use Prim.Native.Nat.{ℕ, _≤_, _<_}
 use native.Mathlib.Omega.{arith}
 use borrow.Author.Tests.{not-false}
 use lib.ListN.{getD, replicate}
-use Rattle.range.specs.Tests.{pick-by}
-use Rattle.range.specs.Phase.{Each, end, _then_, by-phase}
-use Rattle.range.specs.Calls.{begin-state, step-state, run-state}
-use Rattle.range.specs.Lists.{each-set, each-replicate}
-use Rattle.range.specs.Facts.{PlaceOk, ThreadOk, thread-facts, settings-facts, InRange, facts, in-range}
-use Rattle.range.specs.Plans.{ViewOk, PlanOk, view-ok, apply-ok}
-use Rattle.range.specs.Pieces.{fresh-thread-ok, operation-ok, zero-place-ok, base-body-ok, new-ok}
-use Rattle.range.specs.KeepsSearch.{row0-ok, row1-ok, row2-ok, row3-ok, row4-ok, row5-ok, row6-ok, row7-ok, row8-ok, row25-ok}
-use Rattle.range.specs.KeepsJoin.{row9-ok, row10-ok, row11-ok, row12-ok, row13-ok, row14-ok, row15-ok, row16-ok, row17-ok, row18-ok, row19-ok, row20-ok, row21-ok, row22-ok, row23-ok, row24-ok}
+use Rattle.states.specs.Tests.{pick-by}
+use Rattle.states.specs.Phase.{Each, end, _then_, by-phase}
+use Rattle.states.specs.Calls.{begin-state, step-state, run-state}
+use Rattle.states.specs.Lists.{each-set, each-replicate}
+use Rattle.states.specs.Facts.{PlaceOk, ThreadOk, thread-facts, settings-facts, InRange, facts, in-range}
+use Rattle.states.specs.Plans.{ViewOk, PlanOk, view-ok, apply-ok}
+use Rattle.states.specs.Pieces.{fresh-thread-ok, operation-ok, zero-place-ok, base-body-ok, new-ok}
+use Rattle.states.specs.KeepsSearch.{row0-ok, row1-ok, row2-ok, row3-ok, row4-ok, row5-ok, row6-ok, row7-ok, row8-ok, row25-ok}
+use Rattle.states.specs.KeepsJoin.{row9-ok, row10-ok, row11-ok, row12-ok, row13-ok, row14-ok, row15-ok, row16-ok, row17-ok, row18-ok, row19-ok, row20-ok, row21-ok, row22-ok, row23-ok, row24-ok}
 use Rattle.rules.specs.State.{unmade, fresh, zeroPlace, zeroThread, threadAt}
 use Rattle.rules.specs.Rows.{rows, planOf, needs, idle, stuck}
 use Rattle.rules.specs.Range.{settingsInRange, registerInRange, registersInRange, threadInRange, inRange}

@@ -5,8 +5,8 @@ use Prim.Native.Nat.{ℕ, zero, suc, _+_, _≤_, _<_}
 use native.Mathlib.Nat.{zero-add}
 use native.Mathlib.Omega.{arith}
 use lib.Dec.{eqb, leb, ltb}
-use Rattle.range.specs.Tests.{pick}
-use Rattle.range.specs.Calls.{steps-tests, run-tests}
+use Rattle.states.specs.Tests.{pick}
+use Rattle.states.specs.Calls.{steps-tests, run-tests}
 use Rattle.rules.specs.State.{threadAt}
 use Rattle.rules.specs.Rows.{stuck}
 use Rattle.rules.specs.Range.{inRange}

@@ -8,8 +8,8 @@ use borrow.Author.Tests.{eqb-true, not-true}
 use lib.Dec.{eqb}
 use lib.ListN.{getD}
 use lib.Seq.{set-getD}
-use Rattle.range.specs.Tests.{both, either}
-use Rattle.range.specs.Phase.{row-at}
+use Rattle.states.specs.Tests.{both, either}
+use Rattle.states.specs.Phase.{row-at}
 use Rattle.rules.specs.State.{zeroThread, threadAt}
 use Rattle.rules.specs.Places.{isFree}
 use Rattle.rules.specs.Rows.{goes, rows, row0, row4, row13, row17, planOf, stuck}

@@ -7,10 +7,10 @@ use native.Mathlib.Omega.{arith}
 use borrow.Author.Tests.{ltb-true}
 use lib.Dec.{T, eqb, leb, ltb}
 use lib.ListN.{getD}
-use Rattle.range.specs.Tests.{pick}
-use Rattle.range.specs.Facts.{PlaceOk, RegisterOk, registersOf, ThreadOk}
-use Rattle.range.specs.Plans.{ViewOk, PlanOk}
-use Rattle.range.specs.Pieces.{phase-ok, base-ok, walk-ok, zero-place-ok, takes-ok}
+use Rattle.states.specs.Tests.{pick}
+use Rattle.states.specs.Facts.{PlaceOk, RegisterOk, registersOf, ThreadOk}
+use Rattle.states.specs.Plans.{ViewOk, PlanOk}
+use Rattle.states.specs.Pieces.{phase-ok, base-ok, walk-ok, zero-place-ok, takes-ok}
 use Rattle.rules.specs.State.{none, zeroPlace}
 use Rattle.rules.specs.Places.{isRoute}
 use Rattle.rules.specs.Rows.{stores3, stores1, only, goes, hangs, searches, seeks}

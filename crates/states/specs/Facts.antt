@@ -8,7 +8,7 @@ use native.Mathlib.Omega.{arith}
 use borrow.Author.Tests.{leb-true, ltb-true, eqb-true, le-leb, lt-ltb, eq-eqb}
 use lib.Dec.{leb, ltb, eqb}
 use lib.ListN.{getD}
-use Rattle.range.specs.Tests.{Hold, hold, each, both, either, pick}
+use Rattle.states.specs.Tests.{Hold, hold, each, both, either, pick}
 use Rattle.rules.specs.State.{none, nobody, topStatistics, zeroPlace, zeroThread, threadAt}
 use Rattle.rules.specs.Places.{isRouteBody, routeKeyOfBody, childOnBody}
 use Rattle.rules.specs.Range.{settingsInRange, bodyInRange, placeInRange, registerInRange, registersInRange, threadInRange, placesInRange, threadsInRange, countsInRange, inRange}

@@ -6,11 +6,11 @@ use Prim.Native.Nat.{ℕ, _+_, _≤_}
 use native.Mathlib.Omega.{arith}
 use borrow.Author.Tests.{ltb-false}
 use lib.Dec.{T, eqb, leb, ltb}
-use Rattle.range.specs.Tests.{pick, both}
-use Rattle.range.specs.Facts.{PlaceOk, ThreadOk}
-use Rattle.range.specs.Plans.{ViewOk, PlanOk, thread-more}
-use Rattle.range.specs.Pieces.{phase-ok, walk-ok, neighbour-ok, grandparent-ok, made-ok, side-ok, zero-place-ok, base-body-ok, new-ok, tried-ok, release-ok, zero-ok, invalid-ok, child-ok}
-use Rattle.range.specs.Common.{named, reg, nothing, stores3-ok, stores1-ok, only-ok, goes-ok, hangs-ok, seeks-ok}
+use Rattle.states.specs.Tests.{pick, both}
+use Rattle.states.specs.Facts.{PlaceOk, ThreadOk}
+use Rattle.states.specs.Plans.{ViewOk, PlanOk, thread-more}
+use Rattle.states.specs.Pieces.{phase-ok, walk-ok, neighbour-ok, grandparent-ok, made-ok, side-ok, zero-place-ok, base-body-ok, new-ok, tried-ok, release-ok, zero-ok, invalid-ok, child-ok}
+use Rattle.states.specs.Common.{named, reg, nothing, stores3-ok, stores1-ok, only-ok, goes-ok, hangs-ok, seeks-ok}
 use Rattle.rules.specs.State.{none}
 use Rattle.rules.specs.Places.{isRoute, isBase, isFree, childOn}
 use Rattle.rules.specs.Rows.{farSide, farChild, nearChild, noJoin, join, towardsPrev, base, maybeRoute, routeP, baseN, noneOrG, row9, row10, row11, row12, row13, row14, row15, row16, row17, row18, row19, row20, row21, row22, row23, row24}
