@@ -1,6 +1,6 @@
 -- Case types: a test with its equation, two numbers that are equal or not, a count that is 0 or not.
 use mathlib.Core.Bool.{Bool, true, false, cond, not}
-use mathlib.Core.Path.{_≡_, refl, sym, ap}
+use mathlib.Core.Path.{_≡_, refl, sym, ap, _∙_}
 use Prim.Native.Nat.{ℕ, zero, suc, _+_, _≤_, _<_, zero-le, suc-le-suc}
 use native.Mathlib.Omega.{arith}
 use lib.Dec.{eqb}
@@ -72,3 +72,11 @@ is-le x y = go (compared x y)
     go : Same x y → is x y ≤ 1
     go (same e) = omega (arith, is-same e)
     go (apart h) = omega (arith, is-apart h)
+
+-- no number is two
+pub is-two : (y : ℕ) {a b : ℕ} → (a ≡ b → ⊥) → is y a + is y b ≤ 1
+is-two y {a} {b} n = go (compared y a)
+  where
+    go : Same y a → is y a + is y b ≤ 1
+    go (same e) = omega (arith, is-le y a, is-apart {x = y} {y = b} (λ q. n (sym e ∙ q)))
+    go (apart h) = omega (arith, is-apart h, is-le y b)

@@ -1,5 +1,6 @@
 pub mod Cases
 pub mod Walk
+pub mod Count
 pub mod Tree
 pub mod Slot
 pub mod Graft

@@ -1,4 +1,3 @@
 pub mod Commits
 pub mod Every
-pub mod Idle
 pub mod Steps

@@ -1,10 +1,10 @@
 // The calls on a state: fresh, begin, step and counted steps. Each leaves the state as it came where it refuses.
-use crate::phase;
-use crate::place;
 use crate::range;
-use crate::ready;
-use crate::register;
 use crate::view;
+use nodes::place;
+use nodes::register;
+use rows::phase;
+use rows::ready;
 use rules::answer::Begin;
 use rules::answer::BeginReply;
 use rules::answer::Fresh;

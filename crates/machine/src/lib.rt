@@ -1,16 +1,5 @@
-// The lock-based contention adapting search tree, one step at a time.
+// The machine on a whole state: the range test, fresh, begin, step, counted steps, the key list.
 pub mod calls;
-mod commit;
-mod join;
-pub mod lock;
-mod neighbour;
-mod phase;
-mod place;
-mod plan;
 pub mod range;
-mod ready;
-mod register;
 pub mod run;
-mod search;
-mod split;
 mod view;

@@ -1,9 +1,9 @@
 // Counted steps: the call behind an `S` line.
-use crate::phase;
-use crate::place;
 use crate::range;
-use crate::ready;
 use crate::view;
+use nodes::place;
+use rows::phase;
+use rows::ready;
 use rules::answer::Run;
 use rules::answer::RunReply;
 use rules::row::View;

@@ -1,5 +1,5 @@
 // From the state to what a step reads, and from its plan back to the state.
-use crate::phase;
+use rows::phase;
 use rules::row::Plan;
 use rules::row::Store;
 use rules::row::View;

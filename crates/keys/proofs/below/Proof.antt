@@ -1,3 +1,4 @@
+-- `keys::below` meets its contract.
 use mathlib.Core.Path.{sym}
 use native.Mathlib.Nat.{mod-eq-of-lt, lt-of-lt-of-le}
 use borrow.Author.Needs.{needs}

@@ -1,3 +1,4 @@
+-- `keys::from` meets its contract.
 use native.Mathlib.Nat.{mod-le}
 use borrow.Author.Needs.{needs}
 use Rattle.keys.specs.Keys.{from, below}

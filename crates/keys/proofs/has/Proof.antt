@@ -1,3 +1,4 @@
+-- `keys::has` meets its contract.
 use mathlib.Core.Path.{sym}
 use borrow.Author.Needs.{needs}
 use Rattle.keys.specs.Laws.{has-large}

@@ -1,3 +1,4 @@
+-- `keys::place` meets its contract.
 use native.Mathlib.Nat.{mod-eq-of-lt}
 use native.Mathlib.Omega.{arith}
 use borrow.Author.Needs.{needs}

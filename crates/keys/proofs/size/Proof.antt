@@ -1,3 +1,4 @@
+-- `keys::size` meets its contract.
 use mathlib.Core.Path.{sym}
 use native.Mathlib.Omega.{arith}
 use lib.Count.{ones-le}

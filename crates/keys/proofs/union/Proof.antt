@@ -1,3 +1,4 @@
+-- `keys::union` meets its contract.
 use Rattle.keys.specs.Keys.{union}
 use mathlib.Core.Path.{refl}
 use Rattle.keys.proofs.union.Statement.{statement}

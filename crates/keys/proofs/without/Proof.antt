@@ -1,3 +1,4 @@
+-- `keys::without` meets its contract.
 use mathlib.Core.Path.{sym, _∙_}
 use borrow.Author.Needs.{needs}
 use Rattle.keys.specs.Digits.{key-le, without-key}

@@ -53,7 +53,7 @@ unfolding stepOf threadAt replyOf after
 returns-4 c = simp (ap stuck (sym (c .before .before .before .view .ensures)) ∙ sym (c .before .before .stuck .ensures) ∙ c .before .if4 .taken, ne-eqb _ _ (c .before .before .before .before .if3 .left), le-ltb _ _ (c .before .before .before .before .before .before .before .if2 .left), c .before .before .before .before .before .before .before .before .if1 .left, c .refused-step4 .ensures, c .before .before .before .view .ensures, ← c .before .before .before .before .before .before .before .before .before .in-range .ensures)
 
 plan-of-requires : tie.Need-plan-of-requires
-plan-of-requires c κs = can-commit _ (sym (c .before .stuck .ensures) ∙ c .if4 .left)
+plan-of-requires c κs = search needs
 
 reply-of-requires : tie.Need-reply-of-requires
 reply-of-requires c κs = search needs
@@ -63,7 +63,7 @@ apply-requires c κs = search needs
 
 returns-5 : tie.Need-returns-5
 unfolding stepOf threadAt replyOf after
-returns-5 c = simp (ap stuck (sym (c .before .before .before .before .before .view .ensures)) ∙ sym (c .before .before .before .before .stuck .ensures) ∙ c .before .before .before .if4 .left, ne-eqb _ _ (c .before .before .before .before .before .before .if3 .left), le-ltb _ _ (c .before .before .before .before .before .before .before .before .before .if2 .left), c .before .before .before .before .before .before .before .before .before .before .if1 .left, c .apply .ensures, c .before .reply-of .ensures, c .before .before .plan-of .ensures, c .before .before .before .before .before .view .ensures, ← c .before .before .before .before .before .before .before .before .before .before .before .in-range .ensures)
+returns-5 c = simp (ap stuck (sym (c .before .before .before .before .before .view .ensures)) ∙ sym (c .before .before .before .before .stuck .ensures) ∙ c .before .before .before .if4 .left, ne-eqb _ _ (c .before .before .before .before .before .before .if3 .left), le-ltb _ _ (c .before .before .before .before .before .before .before .before .before .if2 .left), c .before .before .before .before .before .before .before .before .before .before .if1 .left, c .apply .ensures, c .before .reply-of .ensures, c .before .before .plan-of .ensures (can-commit _ (sym (c .before .before .before .before .stuck .ensures) ∙ c .before .before .before .if4 .left)), c .before .before .before .before .before .view .ensures, ← c .before .before .before .before .before .before .before .before .before .before .before .in-range .ensures)
 
 pub step-spec : {M : Type 1} → statement M
 step-spec =

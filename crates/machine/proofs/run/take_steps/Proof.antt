@@ -46,7 +46,7 @@ waits-requires : tie.Need-waits-requires Inv-loop μ-loop
 waits-requires c κs = search needs
 
 plan-of-requires : tie.Need-plan-of-requires Inv-loop μ-loop
-plan-of-requires c κs = can-commit _ (sym (c .before .before .before .stuck .ensures) ∙ c .before .before .if2 .left)
+plan-of-requires c κs = search needs
 
 apply-requires : tie.Need-apply-requires Inv-loop μ-loop
 apply-requires c κs = search needs
@@ -64,7 +64,7 @@ loop-again c =
     let l = c .before .before .before .before .before .before .before .before .before .before .before .loop in
     let w = c .before .before .before .before .before .before .before .before .view .ensures in
     let e = ap stuck (sym w) ∙ sym (c .before .before .before .before .before .before .before .stuck .ensures) ∙ c .before .before .before .before .before .before .if2 .left in
-    let f = ap (apply (l .u) (a .t)) (c .before .before .before .plan-of .ensures ∙ ap planOf w) in
+    let f = ap (apply (l .u) (a .t)) (c .before .before .before .plan-of .ensures (can-commit _ (sym (c .before .before .before .before .before .before .before .stuck .ensures) ∙ c .before .before .before .before .before .before .if2 .left)) ∙ ap planOf w) in
     (l .inv .0, (omega arith, l .inv .1 .1 ∙ goes-on (a .s) (l .u) (a .t) (a .n) (l .k) (c .before .before .before .before .before .before .before .before .before .if1 .left) e (ne-eqb _ _ (c .if4 .left)) ∙ ap (λ (x : State). steps (a .n - (l .k + 1)) (a .s) x (a .t) (l .k + 1)) (sym (c .before .before .apply .ensures ∙ f))))
 
 returns : tie.Need-returns Inv-loop μ-loop
@@ -98,7 +98,7 @@ returns-4 c =
     let a = c .before .before .before .before .before .before .before .before .before .before .before .before .args in
     let l = c .before .before .before .before .before .before .before .before .before .before .before .loop in
     let w = c .before .before .before .before .before .before .before .before .view .ensures in
-    let f = ap (apply (l .u) (a .t)) (c .before .before .before .plan-of .ensures ∙ ap planOf w) in
+    let f = ap (apply (l .u) (a .t)) (c .before .before .before .plan-of .ensures (can-commit _ (sym (c .before .before .before .before .before .before .before .stuck .ensures) ∙ c .before .before .before .before .before .before .if2 .left)) ∙ ap planOf w) in
     ap (λ (x : State). record { reply = Ends (l .k + 1) (threadAt (l .u) (a .t) .answer) (threadAt (l .u) (a .t) .commit); state = x }) (c .before .before .apply .ensures ∙ f)
     ∙ sym (l .inv .1 .1 ∙ has-ended (a .s) (l .u) (a .t) (a .n) (l .k) (c .before .before .before .before .before .before .before .before .before .if1 .left) (ap stuck (sym w) ∙ sym (c .before .before .before .before .before .before .before .stuck .ensures) ∙ c .before .before .before .before .before .before .if2 .left) (eq-eqb _ _ (c .if4 .taken)))
 

@@ -1,3 +1,4 @@
+-- `sheet::form::begin_form` meets its contract.
 use mathlib.Core.Path.{sym, _∙_}
 use borrow.Author.Tests.{not-true, not-false}
 use Rattle.text.specs.Reading.{value-if, slip-if}

@@ -1,3 +1,4 @@
+-- `sheet::form::below_of` meets its contract.
 use mathlib.Core.Path.{sym, _∙_}
 use borrow.Author.Tests.{eq-eqb, ne-eqb}
 use lib.ListN.{List·getD-eq-default}

@@ -1,3 +1,4 @@
+-- `sheet::form::first_form` meets its contract.
 use mathlib.Core.Path.{sym, _∙_}
 use borrow.Author.Tests.{ne-eqb}
 use Rattle.sheet.specs.Form.{firstForm, settingsForm, ranged, isFirst}

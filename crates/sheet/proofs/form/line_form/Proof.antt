@@ -1,3 +1,4 @@
+-- `sheet::form::line_form` meets its contract.
 use mathlib.Core.Path.{sym, _∙_}
 use borrow.Author.Tests.{ne-eqb}
 use Rattle.sheet.specs.Form.{lineForm, isBegin, isSteps}

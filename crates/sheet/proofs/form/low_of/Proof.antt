@@ -1,3 +1,4 @@
+-- `sheet::form::low_of` meets its contract.
 use mathlib.Core.Path.{sym, _∙_}
 use borrow.Author.Tests.{eq-eqb, ne-eqb}
 use Rattle.text.specs.Reading.{value-if, slip-if, value-made, slip-made}

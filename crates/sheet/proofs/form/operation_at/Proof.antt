@@ -1,3 +1,4 @@
+-- `sheet::form::operation_at` meets its contract.
 use mathlib.Core.Path.{sym, _∙_}
 use Rattle.text.specs.Text.{valueIf}
 use Rattle.sheet.specs.Form.{isOperation, operationOf}

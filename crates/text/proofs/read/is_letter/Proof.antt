@@ -1,3 +1,4 @@
+-- `text::read::is_letter` meets its contract.
 use borrow.Author.Tests.{eq-eqb, ne-eqb}
 use Rattle.text.specs.Text.{isLetter}
 use borrow.Author.Needs.{needs}

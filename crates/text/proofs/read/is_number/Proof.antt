@@ -1,3 +1,4 @@
+-- `text::read::is_number` meets its contract.
 use mathlib.Core.Path.{sym, _∙_}
 use borrow.Author.Tests.{le-leb, lt-leb, eq-eqb, ne-eqb, not-true, not-false}
 use Rattle.text.specs.Text.{isNumber}

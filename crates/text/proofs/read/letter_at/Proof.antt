@@ -1,3 +1,4 @@
+-- `text::read::letter_at` meets its contract.
 use borrow.Author.Needs.{needs}
 use Rattle.text.proofs.read.letter_at.Statement.{statement}
 use Rattle.text.proofs.read.letter_at.Tie as tie

@@ -1,3 +1,4 @@
+-- `text::read::number_at` meets its contract.
 use borrow.Author.Needs.{needs}
 use Rattle.text.proofs.read.number_at.Statement.{statement}
 use Rattle.text.proofs.read.number_at.Tie as tie

@@ -1,3 +1,4 @@
+-- `text::read::number_of` meets its contract.
 use mathlib.Core.Path.{sym, _∙_}
 use Rattle.text.specs.Text.{valueIf}
 use Rattle.text.specs.Reading.{number-digits}

@@ -1,3 +1,4 @@
+-- `text::write::put_behind` meets its contract.
 use mathlib.Core.Path.{_∙_}
 use lib.ListN.{length-set}
 use Rattle.text.specs.Writing.{wrote-byte, wrote-both}

@@ -1,3 +1,4 @@
+-- `text::write::put_key` meets its contract.
 use mathlib.Core.Path.{sym, _∙_}
 use Rattle.text.specs.Text.{keyText}
 use Rattle.text.specs.Writing.{wrote-none, decimal-key}

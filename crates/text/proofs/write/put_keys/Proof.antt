@@ -1,3 +1,4 @@
+-- `text::write::put_keys` meets its contract.
 use lib.ListN.{length-set}
 use Rattle.text.specs.Writing.{keys-some, keys-none}
 use borrow.Author.Needs.{needs}

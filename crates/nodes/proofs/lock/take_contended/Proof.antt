@@ -1,0 +1,13 @@
+-- `nodes::lock::take_contended` meets its contract.
+use borrow.Author.Needs.{needs}
+use Rattle.nodes.proofs.lock.take_contended.Statement.{statement}
+use Rattle.nodes.proofs.lock.take_contended.Tie as tie
+
+more-requires : tie.Need-more-requires
+more-requires c κs = search needs
+
+returns : tie.Need-returns
+returns c = cc
+
+pub take-contended-spec : {M : Type 1} → statement M
+take-contended-spec = tie.close (tie.spec more-requires returns)

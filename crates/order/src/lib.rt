@@ -1,0 +1,1 @@
+// The invariant of the machine: theorems only, no function.

@@ -1,0 +1,66 @@
+-- `rows::phase::splice_row` meets its contract.
+use borrow.Author.Needs.{needs}
+use mathlib.Core.Path.{_≡_}
+use native.Mathlib.Omega.{arith}
+use Rattle.rules.specs.Rows.{planOf, rows}
+use Rattle.rows.proofs.phase.splice_row.Statement.{statement}
+use Rattle.rows.proofs.phase.splice_row.Tie as tie
+
+row-15-requires : tie.Need-row-15-requires
+row-15-requires c κs = search needs
+
+row-16-requires : tie.Need-row-16-requires
+row-16-requires c κs = search needs
+
+row-17-requires : tie.Need-row-17-requires
+row-17-requires c κs = search needs
+
+row-18-requires : tie.Need-row-18-requires
+row-18-requires c κs = search needs
+
+row-19-requires : tie.Need-row-19-requires
+row-19-requires c κs = search needs
+
+row-20-requires : tie.Need-row-20-requires
+row-20-requires c κs = search needs
+
+returns : tie.Need-returns
+unfolding planOf rows
+returns c = simp (c .before .match .keys1, c .row-15 .ensures)
+
+returns-2 : tie.Need-returns-2
+unfolding planOf rows
+returns-2 c = simp (c .before .match .keys2, c .row-16 .ensures)
+
+returns-3 : tie.Need-returns-3
+unfolding planOf rows
+returns-3 c = simp (c .before .match .keys3, c .row-17 .ensures)
+
+returns-4 : tie.Need-returns-4
+unfolding planOf rows
+returns-4 c = simp (c .before .match .keys4, c .row-18 .ensures)
+
+returns-5 : tie.Need-returns-5
+unfolding planOf rows
+returns-5 c = simp (c .before .match .keys5, c .row-19 .ensures)
+
+returns-6 : tie.Need-returns-6
+unfolding planOf rows
+returns-6 c = let e : c .before .before .args .v .thread .phase ≡ 20 = omega arith in simp (e, c .row-20 .ensures)
+
+pub splice-row-spec : {M : Type 1} → statement M
+splice-row-spec =
+    tie.close
+    (tie.spec
+    row-15-requires
+    row-16-requires
+    row-17-requires
+    row-18-requires
+    row-19-requires
+    row-20-requires
+    returns
+    returns-2
+    returns-3
+    returns-4
+    returns-5
+    returns-6)

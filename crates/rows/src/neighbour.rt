@@ -1,0 +1,170 @@
+// The rows of a join up to its made base: phases 9 to 14.
+use crate::plan;
+use nodes::lock;
+use nodes::place;
+use nodes::register;
+use rules::row::Plan;
+use rules::row::View;
+use rules::state::Body;
+ghost use mathlib.Core.Path.{_≡_};
+ghost use Prim.Native.Nat.{_≤_};
+ghost use Rattle.rules.specs.Rows.{farSide, nearChild, row9, row10, row11, noJoin, join, row12, row13, row14};
+
+// Far is right if B is P's left child, else left.
+pub(crate) fn far_side(v: View) -> bool
+    ensures { λ r. ⌜ r ≡ farSide v ⌝ }
+{
+    let q = v.prev;
+    let b = v.thread.base;
+    let left = place::child_on(false, q);
+    left == b
+}
+
+// Walk's child in the near way.
+pub(crate) fn near_child(v: View) -> u8
+    ensures { λ r. ⌜ r ≡ nearChild v ⌝ }
+{
+    let w = v.walk;
+    let side = v.thread.side;
+    place::child_on(!side, w)
+}
+
+// Side fixed; walk = P's far child.
+pub(crate) fn row_9(v: View) -> Plan
+    ensures { λ r. ⌜ r ≡ row9 v ⌝ }
+{
+    let t = v.thread;
+    let q = v.prev;
+    let far = far_side(v);
+    plan::seeks(v, register::set_side(far, t), place::child_on(far, q))
+}
+
+// Walk = its child in the near way.
+pub(crate) fn row_10(v: View) -> Plan
+    ensures { λ r. ⌜ r ≡ row10 v ⌝ }
+{
+    let t = v.thread;
+    plan::seeks(v, t, near_child(v))
+}
+
+// N = walk. N held: B's statistics 0; free: take.
+pub(crate) fn row_11(v: View) -> Plan
+    ensures { λ r. ⌜ r ≡ row11 v ⌝ }
+{
+    let b = v.base;
+    let w = v.walk;
+    let t = v.thread;
+    let u = register::set_neighbour(t.walk, t);
+    if place::is_free(w) {
+        let l = w.lock;
+        let taken = lock::try_lock(v.me, l);
+        return plan::stores_1(
+            v,
+            register::at_phase(12, u),
+            plan::at(t.walk, place::with_lock(taken, w)),
+        );
+    }
+    plan::stores_1(
+        v,
+        register::at_phase(25, u),
+        plan::at(t.base, place::zero(b)),
+    )
+}
+
+// Release N, B's statistics 0: the same place where B is N.
+fn no_join(v: View) -> Plan
+    ensures { λ r. ⌜ r ≡ noJoin v ⌝ }
+{
+    let t = v.thread;
+    let b = v.base;
+    let n = v.neighbour;
+    let free = place::release(n);
+    let stored = plan::at(t.neighbour, free);
+    if t.base == t.neighbour {
+        return plan::stores_2(
+            v,
+            register::at_phase(25, t),
+            stored,
+            plan::at(t.base, place::zero(free)),
+        );
+    }
+    plan::stores_2(
+        v,
+        register::at_phase(25, t),
+        stored,
+        plan::at(t.base, place::zero(b)),
+    )
+}
+
+// Make a base with the keys of B and N.
+fn join(v: View) -> Plan
+    requires { ⌜ v .made ≤ 127 ⌝ }
+    ensures { λ r. ⌜ r ≡ join v ⌝ }
+{
+    let at = v.made;
+    let made = at + 1;
+    let b = v.base;
+    let n = v.neighbour;
+    let t = v.thread;
+    let ks = keys::union(place::keys_of(b), place::keys_of(n));
+    let both = place::new_node(Body::Base { keys: ks });
+    Plan {
+        thread: register::at_phase(13, register::set_made(at, t)),
+        root: v.root,
+        made,
+        committed: v.committed,
+        first: plan::at(at, both),
+        second: plan::no_store(),
+        third: plan::no_store(),
+    }
+}
+
+// Join, if N is valid and there is a place.
+pub(crate) fn row_12(v: View) -> Plan
+    ensures { λ r. ⌜ r ≡ row12 v ⌝ }
+{
+    let n = v.neighbour;
+    let made = v.made;
+    if n.valid {
+        if 127 < made {
+            return no_join(v);
+        }
+        return join(v);
+    }
+    no_join(v)
+}
+
+// P free: take; held: waits.
+pub(crate) fn row_13(v: View) -> Plan
+    ensures { λ r. ⌜ r ≡ row13 v ⌝ }
+{
+    let q = v.prev;
+    let t = v.thread;
+    if place::is_free(q) {
+        let l = q.lock;
+        let taken = lock::try_lock(v.me, l);
+        return plan::stores_1(
+            v,
+            register::at_phase(14, t),
+            plan::at(t.prev, place::with_lock(taken, q)),
+        );
+    }
+    plan::goes(v, 13)
+}
+
+// P, N, B invalid.
+pub(crate) fn row_14(v: View) -> Plan
+    ensures { λ r. ⌜ r ≡ row14 v ⌝ }
+{
+    let q = v.prev;
+    let n = v.neighbour;
+    let b = v.base;
+    let t = v.thread;
+    plan::stores_3(
+        v,
+        register::at_phase(15, t),
+        plan::at(t.prev, place::invalid(q)),
+        plan::at(t.neighbour, place::invalid(n)),
+        plan::at(t.base, place::invalid(b)),
+    )
+}
