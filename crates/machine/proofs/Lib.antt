@@ -1,3 +1,4 @@
 pub mod Commits
 pub mod Every
+pub mod Gather
 pub mod Steps

@@ -53,4 +53,4 @@ reached s = gather 129 (s .places) (s .root) unmet
 
 -- "key list 7, 8"
 unfoldable pub keyListOf : State → ListReply
-keyListOf s = elim (not (inRange s)) [ true ↦ Refused 7 | false ↦ cond (reached s .twice) (Refused 8) (Keys (reached s .keys)) ]
+keyListOf s = cond (not (inRange s)) (Refused 7) (cond (reached s .twice) (Refused 8) (Keys (reached s .keys)))
