@@ -1,13 +1,13 @@
 -- How many routes there are among the first numbers.
 use mathlib.Core.Bool.{Bool, true, false, cond}
-use mathlib.Core.Path.{_≡_, refl, sym, ap, _∙_}
+use mathlib.Core.Path.{_≡_, refl, ap, _∙_}
 use Prim.Native.Nat.{ℕ, zero, suc, _+_, _≤_, _<_}
 use native.Mathlib.Omega.{arith}
-use Rattle.graph.specs.Cases.{Same, same, apart, compared}
+use Rattle.graph.specs.Cases.{Test, holds, fails, test, Same, same, apart, compared}
 use Rattle.graph.specs.Walk.{Cell}
 
 -- 1 for a route
-pub one : Bool → ℕ
+unfoldable pub one : Bool → ℕ
 one b = cond b 1 0
 
 -- the routes among the numbers below n
@@ -45,3 +45,31 @@ pub routes-none : (g : ℕ → Cell) (n : ℕ) → ((x : ℕ) → x < n → g x 
 unfolding one routes
 routes-none g zero h = refl
 routes-none g (suc n) h = omega (arith, ap one (h n (omega arith)), routes-none g n (λ x l. h x (omega arith)))
+
+-- a route is counted, above all that stand before it
+pub routes-next : (g : ℕ → Cell) (n : ℕ) → g n .route ≡ true → routes g (suc n) ≡ 1 + routes g n
+unfolding one routes
+routes-next g n e = omega (arith, ap one e)
+
+-- more numbers, no fewer routes
+pub routes-upto : (g : ℕ → Cell) (m n : ℕ) → m ≤ n → routes g m ≤ routes g n
+unfolding routes
+routes-upto g m zero l = omega (arith, ap (λ (k : ℕ). routes g k) (le-zero l))
+  where
+    le-zero : m ≤ 0 → m ≡ 0
+    le-zero k = omega arith
+routes-upto g m (suc n) l = go (compared m (suc n)) (λ k. routes-upto g m n k)
+  where
+    go : Same m (suc n) → (m ≤ n → routes g m ≤ routes g n) → routes g m ≤ one (g n .route) + routes g n
+    go (same e) f = omega (arith, ap (λ (k : ℕ). routes g k) e)
+    go (apart h) f = omega (arith, f (omega arith))
+
+-- routes that stay routes are no fewer
+pub routes-grow : (g g′ : ℕ → Cell) (n : ℕ) → ((x : ℕ) → g x .route ≡ true → g′ x .route ≡ true) → routes g n ≤ routes g′ n
+unfolding one routes
+routes-grow g g′ zero h = omega arith
+routes-grow g g′ (suc n) h = go (test (g n .route)) (routes-grow g g′ n h)
+  where
+    go : Test (g n .route) → routes g n ≤ routes g′ n → one (g n .route) + routes g n ≤ one (g′ n .route) + routes g′ n
+    go (holds e) k = omega (arith, ap one e, ap one (h n e))
+    go (fails e) k = omega (arith, ap one e)

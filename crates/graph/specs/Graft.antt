@@ -1,11 +1,11 @@
 -- A tree with another tree in the place of the one under a slot.
-use mathlib.Core.Bool.{Bool, true, false, cond, not, true≢false}
+use mathlib.Core.Bool.{Bool, true, false, not, true≢false}
 use mathlib.Core.Path.{_≡_, refl, sym, ap, _∙_}
-use Prim.Native.Nat.{ℕ, zero, suc, _+_, _≤_, _<_}
+use Prim.Native.Nat.{ℕ, _+_, _≤_}
 use native.Mathlib.Omega.{arith}
-use Rattle.graph.specs.Cases.{Test, holds, fails, test, Same, same, apart, compared, is, is-same, is-some}
+use Rattle.graph.specs.Cases.{Test, holds, fails, test, is, is-same, is-some}
 use Rattle.graph.specs.Walk.{Cell, kid, Direction, next, Walk, here, step, walk-from, first}
-use Rattle.graph.specs.Tree.{Tree, tip, fork, label, count, Forks, Shape, leaf, branch, label-in, Stands, top, inL, inR, stands, head-in, shape-same, Once, side-left, side-right}
+use Rattle.graph.specs.Tree.{Tree, fork, label, count, Shape, leaf, branch, label-in, Stands, top, inL, inR, stands, head-in, shape-same, Once, side-left, side-right}
 use Rattle.graph.specs.Slot.{Slot, turned}
 
 -- t′ is t with the tree b in the place of the tree a, which stands under i on side w

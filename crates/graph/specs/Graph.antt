@@ -1,11 +1,10 @@
 -- A graph with its tree: what is good of one, and what every change of it keeps.
-use mathlib.Core.Bool.{Bool, true, false, cond, not, true≢false}
-use mathlib.Core.Path.{_≡_, refl, sym, ap, _∙_}
-use Prim.Native.Nat.{ℕ, _+_, _≤_, _<_}
+use mathlib.Core.Bool.{Bool, true, false, true≢false}
+use mathlib.Core.Path.{_≡_, sym, ap, _∙_}
+use Prim.Native.Nat.{ℕ, _≤_, _<_}
 use native.Mathlib.Omega.{arith}
 use Rattle.keys.specs.Keys.{has}
-use Rattle.graph.specs.Cases.{is, is-same, Same, same, apart, compared}
-use Rattle.graph.specs.Walk.{Cell, kid, Direction, by, next, Walk, walk-same}
+use Rattle.graph.specs.Walk.{Cell, kid, Direction, by, Walk, walk-same}
 use Rattle.graph.specs.Tree.{Tree, label, count, Shape, shape-same, Once}
 
 -- the route that stands for the root pointer: its left child is the root

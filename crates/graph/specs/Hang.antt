@@ -1,16 +1,16 @@
 -- A tree of nodes that were not hung takes a base's place: the split (a route with two bases) and the link of a join (one base).
-use mathlib.Core.Bool.{Bool, true, false, cond, not, true≢false}
+use mathlib.Core.Bool.{Bool, true, false, cond, true≢false}
 use mathlib.Core.Path.{_≡_, refl, sym, ap, _∙_}
 use Prim.Native.Nat.{ℕ, _+_, _≤_, _<_}
 use native.Mathlib.Omega.{arith}
 use lib.Dec.{leb}
 use borrow.Author.Tests.{le-leb, lt-leb}
 use Rattle.keys.specs.Keys.{has}
-use Rattle.graph.specs.Cases.{Test, holds, fails, test, Same, same, apart, compared, Amount, none, some, amount, is, is-same, is-apart, is-some}
-use Rattle.graph.specs.Walk.{Cell, kid, Direction, by, next, Walk, here, step, walk-from, walk-to, walk-join, walk-same}
+use Rattle.graph.specs.Cases.{Amount, none, some, amount, is, is-same, is-apart, is-some}
+use Rattle.graph.specs.Walk.{Cell, kid, Direction, by, Walk, walk-from, walk-join}
 use Rattle.graph.specs.Tree.{Tree, label, count, Shape, shape-same, Once, kid-in, label-in, tip-count, walk-in}
 use Rattle.graph.specs.Slot.{Slot, leaf, slot-route, slot-key, Child, kept, slot, child, walk-slot}
-use Rattle.graph.specs.Graft.{Graft, graft-count, graft-part, graft-label, graft-shape, graft-walk, Cut, cut}
+use Rattle.graph.specs.Graft.{graft-count, graft-label, graft-shape, graft-walk, Cut, cut}
 use Rattle.graph.specs.Graph.{summit, hung, unmade, Graph, In, Out, Route, Good, Belongs, Moves, hung-made}
 
 -- the tree z, of made nodes that are not hung, is to take the place of the base p under i on side w; the cells are then `cell`

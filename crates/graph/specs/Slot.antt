@@ -1,10 +1,9 @@
 -- One child slot changes: what becomes of walks.
-use mathlib.Core.Bool.{Bool, true, false, cond, not, true≢false}
-use mathlib.Core.Path.{_≡_, refl, sym, ap, _∙_}
-use Prim.Native.Nat.{ℕ, _+_, _≤_, _<_}
-use native.Mathlib.Omega.{arith}
-use Rattle.graph.specs.Cases.{Test, holds, fails, test, Same, same, apart, compared}
-use Rattle.graph.specs.Walk.{Cell, kid, Direction, next, Walk, here, step, walk-from, First, first, walk-stops}
+use mathlib.Core.Bool.{Bool, true, false, not}
+use mathlib.Core.Path.{_≡_, sym, ap, _∙_}
+use Prim.Native.Nat.{ℕ}
+use Rattle.graph.specs.Cases.{Same, same, apart, compared}
+use Rattle.graph.specs.Walk.{Cell, kid, Direction, next, Walk, here, step, walk-from, first, walk-stops}
 
 -- the child of route i on side w was p and is z; all else is the same
 pub record Slot (g g′ : ℕ → Cell) (i : ℕ) (w : Bool) (p z : ℕ) : Type 0 where

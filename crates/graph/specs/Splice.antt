@@ -1,17 +1,17 @@
 -- A route leaves the tree with the base that is one of its children; its other child takes its place: the splice of a join.
-use mathlib.Core.Bool.{Bool, true, false, cond, not, true≢false}
+use mathlib.Core.Bool.{Bool, true, false, not, true≢false}
 use mathlib.Core.Path.{_≡_, refl, sym, ap, _∙_}
 use Prim.Native.Nat.{ℕ, _+_, _≤_, _<_}
 use native.Mathlib.Omega.{arith}
-use lib.Dec.{ltb, leb}
+use lib.Dec.{ltb}
 use borrow.Author.Tests.{ltb-true, ltb-false, lt-ltb, le-ltb, not-true, not-false, eq-eqb, ne-eqb}
 use Rattle.keys.specs.Keys.{has}
-use Rattle.graph.specs.Cases.{Way, onto, off, way, Same, same, apart, compared, Amount, none, some, amount, is, is-same, is-apart, is-some}
-use Rattle.graph.specs.Walk.{Cell, kid, Direction, by, along, next, Walk, here, step, walk-from, walk-to, walk-join, walk-on, walk-turn, walk-stops, first}
-use Rattle.graph.specs.Tree.{Tree, label, count, Shape, leaf, branch, shape-same, Once, kid-in, label-in, tip-count, walk-in, Through, through, sides-apart}
+use Rattle.graph.specs.Cases.{Way, onto, off, way, Same, same, apart, compared, is, is-same, is-apart, is-some}
+use Rattle.graph.specs.Walk.{Cell, kid, Direction, by, along, next, Walk, step, walk-from, walk-join, walk-turn, walk-stops, first, itself, down, walk-below}
+use Rattle.graph.specs.Tree.{Tree, label, count, Shape, leaf, branch, shape-same, kid-in, label-in, tip-count, walk-in, Through, through, sides-apart}
 use Rattle.graph.specs.Slot.{Slot, Skips, passes, ends, slot-route, slot-key, Child, kept, slot, child, walk-slot}
-use Rattle.graph.specs.Graft.{Graft, graft-count, graft-part, graft-label, graft-shape, graft-walk, Cut, cut}
-use Rattle.graph.specs.Graph.{summit, hung, unmade, Graph, In, Out, Route, Good, Belongs, Moves, hung-made}
+use Rattle.graph.specs.Graft.{graft-count, graft-part, graft-label, graft-shape, graft-walk, Cut, cut}
+use Rattle.graph.specs.Graph.{summit, hung, Graph, In, Route, Good, Belongs, Moves}
 
 -- the child f of route p on side v is to take p's place under i on side w; p's other child is the base b; the cells are then `cell`
 pub record Splices (m : Graph) (cell : ℕ → Cell) (i : ℕ) (w : Bool) (p : ℕ) (v : Bool) (b f : ℕ) : Type 0 where
@@ -230,11 +230,8 @@ module _ {m : Graph} (good : Good m) {cell : ℕ → Cell} {i : ℕ} {w : Bool} 
   unfolding splice
   taken-over {n} j u a e k = walk-join (leads (pass .before)) (walks turns k)
     where
-      down : Walk (m .cell) (λ x z. not v) p b
-      down = step p (here refl) (h .route) (h .near)
-
       pass : Through (m .cell) (by j) summit p b
-      pass = rw (good .head) at (through (good .shape) (good .once) p-in (walk-from (good .head) u) down)
+      pass = rw (good .head) at (through (good .shape) (good .once) p-in (walk-from (good .head) u) (down p (not v) (itself (h .near)) (h .route)))
 
       away : (x : ℕ) → m .cell x .route ≡ false → p ≡ x → ⊥
       away x r y = true≢false (sym (h .route) ∙ ap (λ (z : ℕ). m .cell z .route) y ∙ r)
@@ -243,8 +240,8 @@ module _ {m : Graph} (good : Good m) {cell : ℕ → Cell} {i : ℕ} {w : Bool} 
       turn : Way (not (ltb j (m .cell p .key))) v → not (ltb j (m .cell p .key)) ≡ not v
       turn (off y) = y
       turn (onto y) =
-          absurd (sides-apart {e = by j} (good .shape) (good .once) p p-in (h .route) v
-          (walk-from (ap (λ (s : Bool). kid s (m .cell p)) (sym y)) (first (pass .after) (away b (h .base)) .rest)) (here (h .near)))
+          absurd (sides-apart (good .shape) (good .once) p p-in (h .route) v
+          (walk-below (walk-from (ap (λ (s : Bool). kid s (m .cell p)) (sym y)) (first (pass .after) (away b (h .base)) .rest))) (itself (h .near)))
 
       far-way : next (m .cell) (along p v) p ≡ f
       far-way = rw (eq-eqb p p refl) (h .far)
@@ -266,7 +263,7 @@ module _ {m : Graph} (good : Good m) {cell : ℕ → Cell} {i : ℕ} {w : Bool} 
           found =
               rw (good .head) at
               (through (good .shape) (good .once) p-in
-              (walk-from (good .head) (good .search x (walk-in (good .shape) p-in below) r)) below)
+              (walk-from (good .head) (good .search x (walk-in (good .shape) p-in below) r)) (walk-below below))
 
           go : Way (not (ltb (m .cell x .key) (m .cell p .key))) v → not (ltb (m .cell x .key) (m .cell p .key)) ≡ v
           go (onto z) = z

@@ -1,12 +1,11 @@
 -- Tracks: the walk that stands at x will fall in with the walk that starts now at a, or run into a base that has left the tree.
-use mathlib.Core.Bool.{Bool, true, false, cond, not, true≢false}
-use mathlib.Core.Path.{_≡_, refl, sym, ap, _∙_}
-use Prim.Native.Nat.{ℕ, _+_, _≤_, _<_}
-use native.Mathlib.Omega.{arith}
+use mathlib.Core.Bool.{true, false}
+use mathlib.Core.Path.{_≡_, refl, ap, _∙_}
+use Prim.Native.Nat.{ℕ}
 use Rattle.graph.specs.Cases.{Test, holds, fails, test, Amount, none, some, amount}
-use Rattle.graph.specs.Walk.{Cell, kid, Direction, next, Walk, here, step, walk-on}
-use Rattle.graph.specs.Tree.{Tree, count, kid-in, walk-in}
-use Rattle.graph.specs.Graph.{hung, unmade, Graph, In, Out, Good, Moves, hung-made}
+use Rattle.graph.specs.Walk.{Cell, kid, Direction, next, Walk, walk-on}
+use Rattle.graph.specs.Tree.{count, kid-in, walk-in}
+use Rattle.graph.specs.Graph.{hung, Graph, In, Out, Good, Moves, hung-made}
 
 pub data Track (m : Graph) (d : Direction) (a : ℕ) : ℕ → Type 0 where
   -- the walk from a meets x

@@ -1,10 +1,10 @@
 -- Trees over a graph, and counting: a node stands in a tree as often as it is counted.
-use mathlib.Core.Bool.{Bool, true, false, cond, not, true≢false}
+use mathlib.Core.Bool.{Bool, true, false, not, true≢false}
 use mathlib.Core.Path.{_≡_, refl, sym, ap, _∙_}
-use Prim.Native.Nat.{ℕ, zero, suc, _+_, _≤_, _<_}
+use Prim.Native.Nat.{ℕ, _+_, _≤_}
 use native.Mathlib.Omega.{arith}
-use Rattle.graph.specs.Cases.{Test, holds, fails, test, Same, same, apart, compared, Amount, none, some, amount, is, is-same, is-apart, is-some, is-le}
-use Rattle.graph.specs.Walk.{Cell, kid, Direction, next, Walk, here, step, walk-from, walk-to, first}
+use Rattle.graph.specs.Cases.{Test, holds, fails, test, Same, same, apart, compared, Amount, none, some, amount, is, is-same, is-apart, is-some}
+use Rattle.graph.specs.Walk.{Cell, kid, Direction, next, Walk, here, step, walk-from, first, Below, itself, down, below-from}
 
 pub data Tree : Type 0 where
   tip : ℕ → Tree
@@ -75,6 +75,11 @@ pub walk-in : {g : ℕ → Cell} {d : Direction} {t : Tree} → Shape g t → {x
 walk-in s i (here e) = rw e at i
 walk-in {g} {d} s i (step x w r n) = walk-in s (rw n at (kid-in s x i r (d x (g x .key)))) w
 
+-- what is below a node of the tree is in the tree
+pub below-in : {g : ℕ → Cell} {t : Tree} → Shape g t → {x y : ℕ} → 1 ≤ count x t → Below g x y → 1 ≤ count y t
+below-in s i (itself e) = rw e at i
+below-in s i (down x w b r) = below-in s (kid-in s x i r w) b
+
 -- what a walk from the head of a tree meets is in the tree
 pub head-in : {g : ℕ → Cell} {d : Direction} {t : Tree} → Shape g t → {y : ℕ} → Walk g d (label t) y → 1 ≤ count y t
 head-in {t = t} s w = walk-in s (label-in t) w
@@ -101,10 +106,10 @@ pub record Through (g : ℕ → Cell) (d : Direction) (a x y : ℕ) : Type 0 whe
   pub before : Walk g d a x
   pub after : Walk g d x y
 
-pub through : {g : ℕ → Cell} {d e : Direction} {t : Tree} {x y : ℕ} → Shape g t → Once t → 1 ≤ count x t → Walk g d (label t) y → Walk g e x y
+pub through : {g : ℕ → Cell} {d : Direction} {t : Tree} {x y : ℕ} → Shape g t → Once t → 1 ≤ count x t → Walk g d (label t) y → Below g x y
     → Through g d (label t) x y
 through (leaf s) o i w v = let p = is-some i in record { before = here (sym p); after = walk-from p w }
-through {g} {d} {e} {x = x} {y} (branch {n} {l} {r} f a b) o i w v =
+through {g} {d} {x = x} {y} (branch {n} {l} {r} f a b) o i w v =
     split (compared x n) (stands i) w (λ j u. through a (λ z. omega (arith, o z)) j u v) (λ j u. through b (λ z. omega (arith, o z)) j u v)
   where
     turn : (q : Test (d n (g n .key))) → Walk g d (next g d n) y
@@ -115,17 +120,17 @@ through {g} {d} {e} {x = x} {y} (branch {n} {l} {r} f a b) o i w v =
         let m = side-left f q in
         let k = p j (walk-from (sym m) u) in record { before = step n (k .before) (f .route) m; after = k .after }
     turn (holds q) u p p′ (inL j) h =
-        absurd (omega (arith, o y, walk-in a j v, head-in b (walk-from (sym (side-right f q)) u)))
+        absurd (omega (arith, o y, below-in a j v, head-in b (walk-from (sym (side-right f q)) u)))
     turn (holds q) u p p′ (inR j) h =
         let m = side-right f q in
         let k = p′ j (walk-from (sym m) u) in record { before = step n (k .before) (f .route) m; after = k .after }
     turn (fails q) u p p′ (inR j) h =
-        absurd (omega (arith, o y, walk-in b j v, head-in a (walk-from (sym (side-left f q)) u)))
+        absurd (omega (arith, o y, below-in b j v, head-in a (walk-from (sym (side-left f q)) u)))
 
     inside : Stands x n l r → (x ≡ n → ⊥) → 1 ≤ count y l + count y r
     inside (top m) h = absurd (h m)
-    inside (inL j) h = omega (arith, walk-in a j v)
-    inside (inR j) h = omega (arith, walk-in b j v)
+    inside (inL j) h = omega (arith, below-in a j v)
+    inside (inR j) h = omega (arith, below-in b j v)
 
     split : Same x n → Stands x n l r → Walk g d n y → (1 ≤ count x l → Walk g d (label l) y → Through g d (label l) x y)
         → (1 ≤ count x r → Walk g d (label r) y → Through g d (label r) x y) → Through g d n x y
@@ -133,27 +138,30 @@ through {g} {d} {e} {x = x} {y} (branch {n} {l} {r} f a b) o i w v =
     split (apart h) q u p p′ =
         turn (test (d n (g n .key))) (first u (λ m. omega (arith, o y, is-same (sym m), inside q h)) .rest) p p′ q h
 
+pub top-in : {g : ℕ → Cell} {t : Tree} → Shape g t → {y : ℕ} → Below g (label t) y → 1 ≤ count y t
+top-in {t = t} s b = below-in s (label-in t) b
+
 -- what stands below the two children of a route of the tree is different
-pub sides-apart : {g : ℕ → Cell} {d e : Direction} {t : Tree} → Shape g t → Once t → (x : ℕ) → 1 ≤ count x t → g x .route ≡ true → (w : Bool)
-    → {y : ℕ} → Walk g d (kid w (g x)) y → Walk g e (kid (not w) (g x)) y → ⊥
+pub sides-apart : {g : ℕ → Cell} {t : Tree} → Shape g t → Once t → (x : ℕ) → 1 ≤ count x t → g x .route ≡ true → (w : Bool)
+    → {y : ℕ} → Below g (kid w (g x)) y → Below g (kid (not w) (g x)) y → ⊥
 sides-apart {g} (leaf s) o x i k w u v = true≢false (sym k ∙ ap (λ (m : ℕ). g m .route) (is-some i) ∙ s)
-sides-apart {g} {d} {e} (branch {n} {l} {r} f a b) o x i k w {y} u v =
+sides-apart {g} (branch {n} {l} {r} f a b) o x i k w {y} u v =
     go (stands i) (λ j. sides-apart a (λ z. omega (arith, o z)) x j k w u v) (λ j. sides-apart b (λ z. omega (arith, o z)) x j k w u v)
   where
-    kids : (w′ : Bool) → x ≡ n → Walk g d (kid w′ (g x)) y → Walk g e (kid (not w′) (g x)) y → ⊥
+    kids : (w′ : Bool) → x ≡ n → Below g (kid w′ (g x)) y → Below g (kid (not w′) (g x)) y → ⊥
     kids true m p q =
         omega (
           arith,
           o y,
-          head-in b (walk-from (sym (f .right) ∙ ap (λ (z : ℕ). g z .right) (sym m)) p),
-          head-in a (walk-from (sym (f .left) ∙ ap (λ (z : ℕ). g z .left) (sym m)) q),
+          top-in b (below-from (sym (f .right) ∙ ap (λ (z : ℕ). g z .right) (sym m)) p),
+          top-in a (below-from (sym (f .left) ∙ ap (λ (z : ℕ). g z .left) (sym m)) q),
         )
     kids false m p q =
         omega (
           arith,
           o y,
-          head-in a (walk-from (sym (f .left) ∙ ap (λ (z : ℕ). g z .left) (sym m)) p),
-          head-in b (walk-from (sym (f .right) ∙ ap (λ (z : ℕ). g z .right) (sym m)) q),
+          top-in a (below-from (sym (f .left) ∙ ap (λ (z : ℕ). g z .left) (sym m)) p),
+          top-in b (below-from (sym (f .right) ∙ ap (λ (z : ℕ). g z .right) (sym m)) q),
         )
 
     go : Stands x n l r → (1 ≤ count x l → ⊥) → (1 ≤ count x r → ⊥) → ⊥

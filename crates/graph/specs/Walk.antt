@@ -1,10 +1,8 @@
 -- Cells and walks. "Child by key k is left if k < route key, else right."
 use mathlib.Core.Bool.{Bool, true, false, cond, not, true≢false}
 use mathlib.Core.Path.{_≡_, refl, sym, ap, _∙_}
-use Prim.Native.Nat.{ℕ, zero, suc, _+_, _≤_, _<_}
-use native.Mathlib.Omega.{arith}
+use Prim.Native.Nat.{ℕ}
 use lib.Dec.{ltb, eqb}
-use Rattle.graph.specs.Cases.{Test, holds, fails, test}
 
 -- what a walk sees of a node: whether it is a route, and then its key and children
 pub record Cell : Type 0 where
@@ -38,12 +36,9 @@ pub data Walk (g : ℕ → Cell) (d : Direction) : ℕ → ℕ → Type 0 where
   here : {x y : ℕ} → x ≡ y → Walk g d x y
   step : (x : ℕ) {z y : ℕ} → Walk g d z y → g x .route ≡ true → next g d x ≡ z → Walk g d x y
 
--- a walk from elsewhere, or to elsewhere, by equal numbers
+-- a walk from an equal number
 pub walk-from : {g : ℕ → Cell} {d : Direction} {a x y : ℕ} → a ≡ x → Walk g d x y → Walk g d a y
 walk-from e w = rw e w
-
-pub walk-to : {g : ℕ → Cell} {d : Direction} {x y b : ℕ} → y ≡ b → Walk g d x y → Walk g d x b
-walk-to e w = rw e at w
 
 -- one walk after another
 pub walk-join : {g : ℕ → Cell} {d : Direction} {x y z : ℕ} → Walk g d x y → Walk g d y z → Walk g d x z
@@ -85,3 +80,16 @@ pub walk-same : {g g′ : ℕ → Cell} {d : Direction} {x y : ℕ} → ((r : �
 walk-same h (here e) = here e
 walk-same {g} {g′} {d} h (step x w r n) =
     step x (walk-same h w) (ap (λ (c : Cell). c .route) (h x r) ∙ r) (ap (λ (c : Cell). kid (d x (c .key)) c) (h x r) ∙ n)
+
+-- y is met from x, going both ways
+pub data Below (g : ℕ → Cell) : ℕ → ℕ → Type 0 where
+  itself : {x y : ℕ} → x ≡ y → Below g x y
+  down : (x : ℕ) (w : Bool) {y : ℕ} → Below g (kid w (g x)) y → g x .route ≡ true → Below g x y
+
+-- what is below an equal node
+pub below-from : {g : ℕ → Cell} {a x y : ℕ} → a ≡ x → Below g x y → Below g a y
+below-from e b = rw e b
+
+pub walk-below : {g : ℕ → Cell} {d : Direction} {x y : ℕ} → Walk g d x y → Below g x y
+walk-below (here e) = itself e
+walk-below {g} {d} (step x w r n) = down x (d x (g x .key)) (below-from n (walk-below w)) r

@@ -1,29 +1,29 @@
 -- From the state and what a step reads of it to cells.
-use mathlib.Core.Bool.{Bool, true, false, cond, not, _&&_, true≢false}
+use mathlib.Core.Bool.{Bool, true, false, cond, not}
 use mathlib.Core.List.{List}
 use mathlib.Core.Path.{_≡_, refl, sym, ap, _∙_}
-use Prim.Native.Nat.{ℕ, _+_, _%_, _≤_, _<_}
+use Prim.Native.Nat.{ℕ, _≤_, _<_}
 use native.Mathlib.Nat.{mod-eq-of-lt}
 use native.Mathlib.Omega.{arith}
-use lib.Dec.{ltb, eqb}
+use lib.Dec.{ltb}
 use lib.ListN.{getD, set, length, length-set}
 use lib.Seq.{getD-set-same, getD-set-other}
-use borrow.Author.Tests.{lt-ltb, eq-eqb}
+use borrow.Author.Tests.{lt-ltb}
 use Rattle.rules.specs.State.{none, zeroPlace, zeroThread, placeAt, threadAt}
-use Rattle.rules.specs.Places.{isRoute, isRouteBody, isBase, keysOf, routeKey, routeKeyOfBody, childOn, childOnBody, childBy}
-use Rattle.rules.specs.Rows.{at, noStore, stores3, only, stores1, stores2}
-use Rattle.rules.specs.Step.{viewBefore, viewOf, put, apply}
+use Rattle.rules.specs.Places.{isRoute, isRouteBody, routeKey, routeKeyOfBody, childOn, childOnBody, childBy}
+use Rattle.rules.specs.Rows.{at, rows, row0, planOf}
+use Rattle.rules.specs.Step.{put, apply, viewBefore, viewOf, after}
 use Rattle.rules.specs.declared.state.Body.{Body}
 use Rattle.rules.specs.declared.state.Body.the-variants.{Base, Route}
 use Rattle.rules.specs.declared.state.Place.{Place}
-use Rattle.rules.specs.declared.state.Thread.{Thread}
 use Rattle.rules.specs.declared.state.State.{State}
 use Rattle.rules.specs.declared.row.Store.{Store}
 use Rattle.rules.specs.declared.row.Plan.{Plan}
+use Rattle.states.specs.Phase.{row-at}
 use Rattle.graph.specs.Walk.{Cell, kid, by, next}
 use Rattle.graph.specs.Tree.{Tree}
 use Rattle.graph.specs.Graph.{summit}
-use Rattle.order.specs.World.{cellOfBody, crown, World, cell, cell-node, cell-summit, worldOf}
+use Rattle.order.specs.World.{cellOfBody, cell, cell-node, cell-summit, worldOf}
 
 pub place-at : (s : State) (x : ℕ) → x < summit → placeAt s x ≡ getD (s .places) x zeroPlace
 unfolding placeAt
@@ -76,6 +76,16 @@ thread-me s me p e l = getD-set-same (s .threads) me (p .thread) zeroThread (ome
 pub thread-other : (s : State) (me : ℕ) (p : Plan) (v : ℕ) → (v ≡ me → ⊥) → threadAt (apply s me p) v ≡ threadAt s v
 unfolding threadAt apply
 thread-other s me p v n = getD-set-other (s .threads) me v (p .thread) zeroThread n
+
+-- the registers of a thread after its step, by its plan and by its row
+pub thread-after : (s : State) (me : ℕ) → length (s .threads) ≡ 8 → me ≤ 7 → threadAt (after s me) me ≡ planOf (viewOf s me) .thread
+unfolding after
+thread-after s me e l = thread-me s me (planOf (viewOf s me)) e l
+
+pub thread-row : (s : State) (me : ℕ) → length (s .threads) ≡ 8 → me ≤ 7 → (n : ℕ) → threadAt s me .phase ≡ n
+    → threadAt (after s me) me ≡ getD rows n row0 (viewOf s me) .thread
+unfolding viewOf viewBefore
+thread-row s me e l n q = thread-after s me e l ∙ ap (λ (p : Plan). p .thread) (row-at (viewOf s me) n q)
 
 pub put-new : (ps : List Place) (n : ℕ) (p : Place) → length ps ≡ 128 → n < summit → getD (put (at n p) ps) n zeroPlace ≡ p
 unfolding put

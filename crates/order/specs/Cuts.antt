@@ -1,6 +1,6 @@
 -- Steps that change a child slot: the split and the link are hung (7, 23), the route of a join is spliced out (19).
-use mathlib.Core.Bool.{Bool, true, false, cond, not, true≢false}
-use mathlib.Core.Path.{_≡_, refl, sym, ap, _∙_}
+use mathlib.Core.Bool.{Bool, true, false, true≢false}
+use mathlib.Core.Path.{_≡_, sym, ap, _∙_}
 use Prim.Native.Nat.{ℕ, _+_, _*_, _≤_, _<_}
 use native.Mathlib.Omega.{arith}
 use Rattle.rules.specs.declared.state.Thread.{Thread}
@@ -9,12 +9,12 @@ use Rattle.graph.specs.Walk.{Cell, kid}
 use Rattle.graph.specs.Count.{routes, routes-same}
 use Rattle.graph.specs.Tree.{count}
 use Rattle.graph.specs.Slot.{Slot, slot-route, Child, kept, slot, child}
-use Rattle.graph.specs.Graph.{summit, hung, unmade, Route, Good, Belongs, Moves, hung-made}
+use Rattle.graph.specs.Graph.{summit, hung, unmade, Route, Good, Belongs, Moves}
 use Rattle.order.specs.World.{World, graph, cell, valid, hold, keys, inTree, outOfTree, Late, Sound}
 use Rattle.order.specs.Stages.{Stage}
-use Rattle.order.specs.Change.{Other, Holds, Kept, Unhung, Keeps, Was, Change}
+use Rattle.order.specs.Change.{Other, Holds, Keeps, Was, Change}
 use Rattle.order.specs.Others.{others}
-use Rattle.order.specs.Steady.{Safe, Any, Touched, touched-held, touched-flag, touched-invalid, still-late}
+use Rattle.order.specs.Steady.{Safe, Any, Touched, touched-held, touched-flag, touched-invalid, touched-valid, still-late}
 
 -- a node that is hung now was hung, or is in the tree now with children that were not
 pub data Grown (w w′ : World) (x : ℕ) : Type 0 where
@@ -126,13 +126,6 @@ module _ {w w′ : World} {thread thread′ : ℕ → Thread} {made made′ me i
         live = live;
       }
 
-  was-valid : (x : ℕ) → w .own x ≡ hung → valid w′ x ≡ true → valid w x ≡ true
-  was-valid x h e = go (valid w x) refl
-    where
-      go : (b : Bool) → valid w x ≡ b → b ≡ true
-      go true q = refl
-      go false q = absurd (true≢false (sym e ∙ touched-invalid x q (c .touched x h)))
-
   was-in : (x : ℕ) → w .own x ≡ hung → inTree w′ x → inTree w x
   was-in x h j = go (amount (count x (w .tree)))
     where
@@ -147,7 +140,7 @@ module _ {w w′ : World} {thread thread′ : ℕ → Thread} {made made′ me i
       go (lately j _) a = absurd (omega arith)
       go (before u) (some j) = c .lateness x j o e
       go (before u) (none n) =
-          let l = safe .sound .late x u n (was-valid x u e) in
+          let l = safe .sound .late x u n (touched-valid x e (c .touched x u)) in
           still-late x u (c .touched x u) l (c .threads) (λ q. c .phase (rw q at (l .phase)))
 
   new-stale : (x : ℕ) → w′ .own x ≡ hung → cell w′ x .route ≡ true → outOfTree w′ x → (s : Bool) → cell w′ (kid s (cell w′ x)) .route ≡ false

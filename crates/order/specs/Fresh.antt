@@ -1,30 +1,26 @@
 -- The fresh state: one base under the summit.
-use mathlib.Core.Bool.{Bool, true, false, cond, not, true≢false}
-use mathlib.Core.List.{List, [], _∷_}
+use mathlib.Core.Bool.{Bool, true, false, cond, true≢false}
 use mathlib.Core.Path.{_≡_, refl, sym, ap, _∙_}
-use Prim.Native.Nat.{ℕ, zero, suc, _+_, _*_, _≤_, _<_}
+use Prim.Native.Nat.{ℕ, zero, suc, _≤_, _<_}
 use native.Mathlib.Omega.{arith}
 use lib.Dec.{ltb, eqb}
-use lib.ListN.{getD, set, length, replicate, getD-replicate, List·getD-eq-default}
-use borrow.Author.Tests.{eqb-true, ltb-true, ltb-false, lt-ltb, le-ltb, ne-eqb}
+use lib.ListN.{getD, replicate, getD-replicate, List·getD-eq-default}
+use borrow.Author.Tests.{ltb-true, ltb-false, lt-ltb, le-ltb, ne-eqb}
 use Rattle.keys.specs.Keys.{has}
 use Rattle.keys.specs.Laws.{has-none}
-use Rattle.rules.specs.State.{zeroPlace, zeroThread, unmade, newNode, freshThread, fresh, threadAt}
-use Rattle.rules.specs.Places.{keysOf, keysOfBody}
+use Rattle.rules.specs.State.{zeroPlace, zeroThread, unmade, freshThread, fresh, threadAt}
+use Rattle.rules.specs.Places.{keysOfBody}
 use Rattle.rules.specs.declared.state.Settings.{Settings}
 use Rattle.rules.specs.declared.state.Body.{Body}
 use Rattle.rules.specs.declared.state.Body.the-variants.{Base}
 use Rattle.rules.specs.declared.state.Place.{Place}
-use Rattle.rules.specs.declared.state.State.{State}
-use Rattle.graph.specs.Cases.{Same, same, apart, compared, is, is-same, is-apart, is-some, is-two}
-use Rattle.graph.specs.Walk.{Cell, kid, by, Walk, here}
-use Rattle.graph.specs.Count.{routes, routes-none}
-use Rattle.graph.specs.Tree.{Tree, tip, fork, count, leaf, branch, Stands, top, inL, inR, stands}
-use Rattle.graph.specs.Graph.{summit, hung, Route, Good, Belongs}
+use Rattle.graph.specs.Cases.{Same, same, apart, compared, is-same, is-some, is-two}
+use Rattle.graph.specs.Walk.{Cell, kid, here}
+use Rattle.graph.specs.Count.{routes-none}
+use Rattle.graph.specs.Tree.{Tree, tip, fork, leaf, branch, Stands, top, inL, inR, stands}
+use Rattle.graph.specs.Graph.{summit, hung, Route, Good}
 use Rattle.order.specs.World.{cellOfBody, crown, cell-node, cell-summit, World, graph, cell, valid, keys, inTree, outOfTree, worldOf, Sound}
-use Rattle.order.specs.Stages.{Stage}
-use Rattle.order.specs.Steady.{Safe}
-use Rattle.order.specs.Quiet.{Result}
+use Rattle.order.specs.Ordered.{Ordered}
 
 -- node 0 is hung, and all that is no node; the others are not made
 freshOwn : ℕ → ℕ
@@ -43,13 +39,13 @@ module _ (c : Settings) where
   abbrev w : World
   w = worldOf (fresh c) freshTree freshOwn
 
-  body : (x : ℕ) → w .place x .body ≡ Base 0
+  pub fresh-body : (x : ℕ) → getD (fresh c .places) x zeroPlace .body ≡ Base 0
   unfolding fresh
-  body zero = refl
-  body (suc x) = empty-body 127 x
+  fresh-body zero = refl
+  fresh-body (suc x) = empty-body 127 x
 
   bases : (x : ℕ) → (x ≡ summit → ⊥) → cell w x ≡ cellOfBody (Base 0)
-  bases x h = cell-node (w .root) (w .place) x h ∙ ap cellOfBody (body x)
+  bases x h = cell-node (w .root) (w .place) x h ∙ ap cellOfBody (fresh-body x)
 
   no-route : (x : ℕ) → (x ≡ summit → ⊥) → cell w x .route ≡ false
   no-route x h = ap (λ (k : Cell). k .route) (bases x h)
@@ -141,7 +137,7 @@ module _ (c : Settings) where
         good = good;
         belongs =
             record {
-              leads = λ b i r j h. absurd (true≢false (sym h ∙ ap (λ (k : Body). has (keysOfBody k) j) (body b) ∙ has-none j));
+              leads = λ b i r j h. absurd (true≢false (sym h ∙ ap (λ (k : Body). has (keysOfBody k) j) (fresh-body b) ∙ has-none j));
             };
         late = λ x h o e. absurd (true≢false (sym e ∙ invalid x h o));
         stale = λ x h r o s b i. absurd (omega (arith, is-same {x = x} (route-is x r)));
@@ -151,10 +147,10 @@ module _ (c : Settings) where
         many = omega (arith, routes-none (cell w) summit (λ x l. no-route x (λ e. omega arith)));
       }
 
-  idle : (t : ℕ) → t ≤ 7 → threadAt (fresh c) t ≡ freshThread
+  pub fresh-idle : (t : ℕ) → t ≤ 7 → threadAt (fresh c) t ≡ freshThread
   unfolding fresh threadAt
-  idle t l = getD-replicate 8 t freshThread zeroThread (omega arith)
+  fresh-idle t l = getD-replicate 8 t freshThread zeroThread (omega arith)
 
-  pub fresh-nodes : Result (fresh c)
+  pub fresh-nodes : Ordered (fresh c)
   fresh-nodes =
-      record { tree = freshTree; own = freshOwn; safe = record { sound = sound; each = λ t l. rw (idle t l) (record { holds = tt }) } }
+      record { tree = freshTree; own = freshOwn; safe = record { sound = sound; each = λ t l. rw (fresh-idle t l) (record { holds = tt }) } }

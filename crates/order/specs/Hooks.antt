@@ -1,14 +1,14 @@
 -- "Takes X's place under Y", as a change of one slot.
 use mathlib.Core.Bool.{Bool, true, false, cond, not, true≢false}
 use mathlib.Core.Path.{_≡_, refl, sym, ap, _∙_}
-use Prim.Native.Nat.{ℕ, _+_, _≤_, _<_}
+use Prim.Native.Nat.{ℕ, _<_}
 use native.Mathlib.Omega.{arith}
-use lib.Dec.{ltb, eqb}
-use lib.ListN.{getD, length}
+use lib.Dec.{eqb}
+use lib.ListN.{length}
 use borrow.Author.Tests.{eqb-true, eqb-false, eq-eqb, ne-eqb}
-use Rattle.rules.specs.State.{none, zeroPlace, placeAt, threadAt}
+use Rattle.rules.specs.State.{none, placeAt}
 use Rattle.rules.specs.Places.{keysOf, keysOfBody, swapBody, takesPlace}
-use Rattle.rules.specs.Rows.{at, noStore, hangs}
+use Rattle.rules.specs.Rows.{hangs}
 use Rattle.rules.specs.Step.{viewBefore, viewOf, put, apply}
 use Rattle.rules.specs.declared.state.Body.{Body}
 use Rattle.rules.specs.declared.state.Body.the-variants.{Base, Route}
@@ -19,8 +19,8 @@ use Rattle.graph.specs.Cases.{Same, same, apart, compared}
 use Rattle.graph.specs.Walk.{Cell, kid}
 use Rattle.graph.specs.Tree.{Tree}
 use Rattle.graph.specs.Slot.{Slot}
-use Rattle.graph.specs.Graph.{summit, hung}
-use Rattle.order.specs.World.{cellOfBody, crown, cellAt, cell-node, cell-same, cell-summit, World, graph, cell, valid, hold, keys, worldOf}
+use Rattle.graph.specs.Graph.{summit}
+use Rattle.order.specs.World.{cellOfBody, crown, cellAt, cell-node, cell-same, cell-summit, World, cell, valid, hold, keys, worldOf}
 use Rattle.order.specs.Stages.{RouteAt}
 use Rattle.order.specs.Bridge.{place-at, put-new, put-old}
 

@@ -1,7 +1,7 @@
 -- Rows 7 and 23 alike: a tree of my nodes takes the place of a base that I hold.
-use mathlib.Core.Bool.{Bool, true, false, cond, not, true≢false}
+use mathlib.Core.Bool.{true, false, true≢false}
 use mathlib.Core.Path.{_≡_, refl, sym, ap, _∙_}
-use Prim.Native.Nat.{ℕ, _+_, _≤_, _<_}
+use Prim.Native.Nat.{ℕ, _+_, _≤_}
 use native.Mathlib.Omega.{arith}
 use Rattle.keys.specs.Keys.{has}
 use Rattle.rules.specs.declared.state.Place.{Place}
@@ -9,14 +9,12 @@ use Rattle.rules.specs.declared.state.Thread.{Thread}
 use Rattle.graph.specs.Cases.{Amount, none, some, amount, is, is-same, is-some}
 use Rattle.graph.specs.Walk.{Cell, kid, by, Walk}
 use Rattle.graph.specs.Tree.{Tree, count, kid-in, label-in}
-use Rattle.graph.specs.Slot.{slot-route}
-use Rattle.graph.specs.Graph.{summit, hung, unmade, Graph, Good, Belongs, Moves, hung-made}
-use Rattle.graph.specs.Hang.{Hangs, hungIn, hung-in, hung-out, Hung, hang, hang-belongs}
-use Rattle.order.specs.World.{cellAt, World, graph, cell, valid, hold, keys, inTree, outOfTree, Late, Sound}
+use Rattle.graph.specs.Graph.{summit, hung, Good, Belongs, Moves, hung-made}
+use Rattle.graph.specs.Hang.{Hangs, hungIn, hung-out, hang, hang-belongs}
+use Rattle.order.specs.World.{cellAt, World, graph, cell, valid, hold, keys, inTree, outOfTree, Late}
 use Rattle.order.specs.Stages.{BaseAt, Stage}
-use Rattle.order.specs.Change.{Other}
 use Rattle.order.specs.Steady.{Safe, as-was}
-use Rattle.order.specs.Cuts.{Grown, before, lately, Cuts, cuts}
+use Rattle.order.specs.Cuts.{Grown, before, lately, cuts}
 use Rattle.order.specs.Hooks.{Hooks}
 
 -- the world with other places under another root
@@ -38,9 +36,6 @@ module _ {w : World} {thread : ℕ → Thread} {made me : ℕ} (safe : Safe w th
 
   moves : Moves (graph w) (graph hungWorld)
   moves = hang (safe .sound .good) h .moves
-
-  x-in : inTree w x
-  x-in = rw (h .slot .was) at (kid-in (good .shape) y (h .under) (h .slot .route) (k .side))
 
   -- a node of z was not in the tree
   loose : (n : ℕ) → 1 ≤ count n z → outOfTree w n

@@ -1,6 +1,6 @@
 -- Steps that make nodes, which are not hung yet.
-use mathlib.Core.Bool.{Bool, true, false, cond, not, true≢false}
-use mathlib.Core.Path.{_≡_, refl, sym, ap, _∙_}
+use mathlib.Core.Bool.{false, cond}
+use mathlib.Core.Path.{_≡_, sym, ap, _∙_}
 use Prim.Native.Nat.{ℕ, _+_, _*_, _≤_, _<_}
 use native.Mathlib.Omega.{arith}
 use lib.Dec.{ltb}
@@ -12,10 +12,10 @@ use Rattle.graph.specs.Cases.{Test, holds, fails, test}
 use Rattle.graph.specs.Walk.{Cell}
 use Rattle.graph.specs.Count.{routes}
 use Rattle.graph.specs.Graph.{summit, hung, unmade, Makes, makes-belongs}
-use Rattle.order.specs.World.{cell-same, World, graph, cell, keys, Sound}
+use Rattle.order.specs.World.{cell-same, World, graph, cell}
 use Rattle.order.specs.Stages.{Stage}
-use Rattle.order.specs.Change.{Other, Change}
-use Rattle.order.specs.Steady.{Safe, Any, Touched, as-was, Calm, calm, steady}
+use Rattle.order.specs.Change.{Change}
+use Rattle.order.specs.Steady.{Safe, Any, as-was, Calm, calm, steady}
 
 -- the nodes from made on up to made′ are me's
 pub given : ℕ → ℕ → ℕ → (ℕ → ℕ) → ℕ → ℕ
@@ -110,6 +110,10 @@ module _ {w w′ : World} {thread : ℕ → Thread} {made made′ me : ℕ} (saf
 
   pub adds-own : (x : ℕ) → made ≤ x → x < made′ → w′ .own x ≡ me
   adds-own = made-new
+
+  -- hung nodes are as they were
+  pub adds-still : (x : ℕ) → w .own x ≡ hung → w′ .place x ≡ w .place x
+  adds-still x h = kept x (λ u. omega arith)
 
   -- the kinds of all but the new nodes are as they were
   pub adds-kind : (x : ℕ) → (made ≤ x → x < made′ → ⊥) → cell w′ x .route ≡ cell w x .route

@@ -8,7 +8,8 @@ use Rattle.graph.specs.Graph.{summit, Good}
 use Rattle.order.specs.World.{World, graph, hold}
 use Rattle.order.specs.Stages.{Towards, Over, Under, Dying, Linking, Closing, Descending, Parent, Holding, Stage}
 use Rattle.order.specs.Change.{Other, Change}
-use Rattle.order.specs.Survive.{searching, arrived, locked, dense, splitting, replaced, turning, seeking, reached, taken, pairing, ready, dying, towards, over, under, linking, closing, descending, parentOf, holdingOf, holding}
+use Rattle.order.specs.Survive.{searching, arrived, locked, dense, splitting, replaced, turning, seeking, reached, taken, pairing, ready, dying, towards, over, under, holdingOf, holding}
+use Rattle.order.specs.SurviveLink.{linking, closing, descending, parentOf}
 
 -- a type, another, and a function between them
 record Survival : Type 1 where

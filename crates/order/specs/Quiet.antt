@@ -1,37 +1,27 @@
 -- Steps that change registers, locks, statistics and flags alone: from the places that they store to the invariant.
-use mathlib.Core.Bool.{Bool, true, false, cond, not, true≢false}
-use mathlib.Core.List.{List}
+use mathlib.Core.Bool.{false}
 use mathlib.Core.Path.{_≡_, refl, sym, ap, _∙_, subst}
-use Prim.Native.Nat.{ℕ, _+_, _≤_, _<_}
+use Prim.Native.Nat.{ℕ, _≤_, _<_}
 use native.Mathlib.Omega.{arith}
-use lib.Dec.{eqb}
 use lib.ListN.{getD, length}
-use Rattle.rules.specs.State.{none, nobody, zeroPlace, placeAt, threadAt}
-use Rattle.rules.specs.Places.{keysOf, keysOfBody}
-use Rattle.rules.specs.Rows.{at, noStore, stores3, only, stores1, stores2}
+use Rattle.rules.specs.State.{zeroPlace, placeAt, threadAt}
+use Rattle.rules.specs.Places.{keysOfBody}
+use Rattle.rules.specs.Rows.{at, only, stores1}
 use Rattle.rules.specs.Step.{viewBefore, viewOf, put, apply}
-use Rattle.rules.specs.declared.state.Body.{Body}
 use Rattle.rules.specs.declared.state.Place.{Place}
 use Rattle.rules.specs.declared.state.Thread.{Thread}
 use Rattle.rules.specs.declared.state.State.{State}
-use Rattle.rules.specs.declared.row.Store.{Store}
 use Rattle.rules.specs.declared.row.Plan.{Plan}
 use Rattle.graph.specs.Cases.{Same, same, apart, compared}
 use Rattle.graph.specs.Walk.{Cell}
 use Rattle.graph.specs.Count.{routes-same}
-use Rattle.graph.specs.Tree.{Tree}
-use Rattle.graph.specs.Graph.{summit, hung, unmade, Good, Belongs, Makes, makes-belongs}
-use Rattle.order.specs.World.{cell-same, World, graph, cell, valid, hold, keys, worldOf, Late, Sound}
+use Rattle.graph.specs.Graph.{summit, hung, Good, Makes, makes-belongs}
+use Rattle.order.specs.World.{cell-same, World, graph, cell, valid, hold, keys, worldOf}
 use Rattle.order.specs.Stages.{Stage}
 use Rattle.order.specs.Change.{Other, Change}
-use Rattle.order.specs.Steady.{Safe, Any, Touched, as-was, by-me, let-go, falls, Calm, calm, Steady, steady}
-use Rattle.order.specs.Bridge.{place-at, thread-me, thread-other, put-new, put-old, put-length}
-
--- the invariant of a state: of its nodes and threads, with a tree and owners
-pub record Result (s : State) : Type 0 where
-  pub tree : Tree
-  pub own : ℕ → ℕ
-  pub safe : Safe (worldOf s tree own) (threadAt s) (s .made)
+use Rattle.order.specs.Steady.{Safe, Any, Touched, as-was, by-me, let-go, falls, Calm, calm, steady}
+use Rattle.order.specs.Ordered.{Ordered, Stepped}
+use Rattle.order.specs.Bridge.{place-at, thread-me, thread-other, put-new, put-old}
 
 -- only registers change
 pub relabel : {w : World} {thread thread′ : ℕ → Thread} {made me : ℕ} → Safe w thread made → ((v : ℕ) → (v ≡ me → ⊥) → thread′ v ≡ thread v)
@@ -116,23 +106,25 @@ module _ {w w′ : World} (q : Quiet w w′) where
         many = rw (routes-same (cell w) (cell w′) summit (λ x l. ap (λ (c : Cell). c .route) (quiet-cell x))) (safe .sound .many);
       }) c
 
-module _ {s : State} (r : Result s) (size : length (s .threads) ≡ 8) {me : ℕ} (l : me ≤ 7) where
+module _ {s : State} (r : Ordered s) (size : length (s .threads) ≡ 8) {me : ℕ} (l : me ≤ 7) where
   -- a row that stores no place
   pub only-row : (th : Thread) → (threadAt s me .phase ≡ 8 → ⊥) → Stage (worldOf s (r .tree) (r .own)) me th
-      → Result (apply s me (only (viewOf s me) th))
+      → Stepped r me (apply s me (only (viewOf s me) th))
   unfolding apply put viewOf viewBefore
   only-row th n c =
       record {
         tree = r .tree;
         own = r .own;
         safe = relabel (r .safe) (thread-other s me (only (viewOf s me) th)) n (rw (thread-me s me (only (viewOf s me) th) size l) c);
+        kinds = λ x e. e;
+        unmoved = λ z. record { tree = refl; cells = λ x h. refl; keys = λ x h n. refl };
       }
 
-module _ {s : State} (r : Result s) (size : length (s .threads) ≡ 8) {me : ℕ} (l : me ≤ 7) (p : Plan) where
+module _ {s : State} (r : Ordered s) (size : length (s .threads) ≡ 8) {me : ℕ} (l : me ≤ 7) (p : Plan) where
   -- a row that keeps all bodies
   pub quiet-row : p .made ≡ s .made → Quiet (worldOf s (r .tree) (r .own)) (worldOf (apply s me p) (r .tree) (r .own))
       → ((x : ℕ) → r .own x ≡ hung → Touch me (Unit {0}) (Unit {0}) (getD (s .places) x zeroPlace) (getD (apply s me p .places) x zeroPlace))
-      → (threadAt s me .phase ≡ 8 → ⊥) → Stage (worldOf (apply s me p) (r .tree) (r .own)) me (p .thread) → Result (apply s me p)
+      → (threadAt s me .phase ≡ 8 → ⊥) → Stage (worldOf (apply s me p) (r .tree) (r .own)) me (p .thread) → Stepped r me (apply s me p)
   unfolding apply
   quiet-row e q t n c =
       record {
@@ -141,6 +133,8 @@ module _ {s : State} (r : Result s) (size : length (s .threads) ≡ 8) {me : ℕ
         safe =
             subst (λ (m : ℕ). Safe (worldOf (apply s me p) (r .tree) (r .own)) (threadAt (apply s me p)) m) (sym e)
             (quiet q (r .safe) (thread-other s me p) t (λ z. absurd (n z)) (rw (thread-me s me p size l) c));
+        kinds = λ x z. ap (λ (a : Cell). a .route) (quiet-cell q x) ∙ z;
+        unmoved = λ z. record { tree = refl; cells = λ x h. quiet-cell q x; keys = λ x h n. quiet-keys q x };
       }
 
 -- one place is stored: n's
@@ -174,13 +168,13 @@ module _ {w w′ : World} {n : ℕ} {p : Place} (o : One w w′ n p) where
 pub self : {me : ℕ} → me ≤ 7 → Other me 9
 self l = record { differ = λ e. omega arith; thread = l }
 
-module _ {s : State} (r : Result s) (size : length (s .threads) ≡ 8) (room : length (s .places) ≡ 128) {me : ℕ} (l : me ≤ 7) where
+module _ {s : State} (r : Ordered s) (size : length (s .threads) ≡ 8) (room : length (s .places) ≡ 128) {me : ℕ} (l : me ≤ 7) where
   -- a row that stores one place, a new form of the old
   pub one-row : (th : Thread) (n : ℕ) (f : Place → Place) → n < summit → ((q : Place) → f q .body ≡ q .body)
       → Touch me (Unit {0}) (Unit {0}) (getD (s .places) n zeroPlace) (f (getD (s .places) n zeroPlace))
       → ((w′ : World) → One (worldOf s (r .tree) (r .own)) w′ n (f (getD (s .places) n zeroPlace))
       → (threadAt s me .phase ≡ 8 → valid w′ (threadAt s me .base) ≡ false) × Stage w′ me th)
-      → Result (apply s me (stores1 (viewOf s me) th (at n (f (placeAt s n)))))
+      → Stepped r me (apply s me (stores1 (viewOf s me) th (at n (f (placeAt s n)))))
   unfolding apply put viewOf viewBefore
   one-row th n f m b t c =
       let p = f (placeAt s n) in
@@ -189,12 +183,15 @@ module _ {s : State} (r : Result s) (size : length (s .threads) ≡ 8) (room : l
       let e : p ≡ f (getD (s .places) n zeroPlace) = ap f (place-at s n m) in
       let o : One w w′ n (f (getD (s .places) n zeroPlace)) =
       record { root = refl; tree = refl; own = λ x. refl; new = put-new (s .places) n p room m ∙ e; old = put-old (s .places) n p } in
+      let still = one-quiet o (b (getD (s .places) n zeroPlace)) in
       let q = c w′ o in
       record {
         tree = r .tree;
         own = r .own;
         safe =
-            quiet (one-quiet o (b (getD (s .places) n zeroPlace))) (r .safe)
+            quiet still (r .safe)
             (thread-other s me (stores1 (viewOf s me) th (at n p))) (λ x h. one-touch o Any t x) (q .0)
             (rw (thread-me s me (stores1 (viewOf s me) th (at n p)) size l) (q .1));
+        kinds = λ x z. ap (λ (a : Cell). a .route) (quiet-cell still x) ∙ z;
+        unmoved = λ z. record { tree = refl; cells = λ x h. quiet-cell still x; keys = λ x h n. quiet-keys still x };
       }

@@ -1,37 +1,37 @@
 -- Row 5: the commit.
 use mathlib.Core.Bool.{Bool, true, false, cond, not, _||_, _&&_, true≢false}
 use mathlib.Core.Path.{_≡_, refl, sym, ap, _∙_}
-use Prim.Native.Nat.{ℕ, _+_, _≤_, _<_}
+use Prim.Native.Nat.{ℕ, _≤_, _<_}
 use native.Mathlib.Omega.{arith}
 use lib.Dec.{ltb, eqb}
-use lib.ListN.{getD, length}
-use borrow.Author.Tests.{eqb-true, eqb-false, ltb-false, ne-eqb}
+use lib.ListN.{length}
+use borrow.Author.Tests.{eqb-false, ltb-false, ne-eqb}
 use Rattle.keys.specs.Keys.{has, with, without, size}
 use Rattle.keys.specs.Laws.{has-with, has-without}
-use Rattle.rules.specs.State.{none, zeroPlace, placeAt, threadAt}
+use Rattle.rules.specs.State.{none, placeAt, threadAt}
 use Rattle.rules.specs.Registers.{atPhase, setAnswer}
 use Rattle.rules.specs.Places.{keysOf, keysAfter, withKeys, release, zero}
-use Rattle.rules.specs.Rows.{at, noStore, stores3, stores1, aboveMax, belowMin, keysThen, commits, decides, row5}
+use Rattle.rules.specs.Rows.{at, stores1, aboveMax, belowMin, commits, decides, row5}
 use Rattle.rules.specs.Step.{viewBefore, viewOf, put, apply}
 use Rattle.rules.specs.declared.state.Body.{Body}
 use Rattle.rules.specs.declared.state.Body.the-variants.{Base, Route}
 use Rattle.rules.specs.declared.state.Place.{Place}
 use Rattle.rules.specs.declared.state.Thread.{Thread}
 use Rattle.rules.specs.declared.state.State.{State}
-use Rattle.rules.specs.declared.row.Plan.{Plan}
 use Rattle.graph.specs.Cases.{Same, same, apart, compared}
-use Rattle.graph.specs.Walk.{Cell, kid, by, next, Walk}
+use Rattle.graph.specs.Walk.{Cell, by, Walk}
 use Rattle.graph.specs.Count.{routes-same}
-use Rattle.graph.specs.Graph.{summit, hung, unmade, Good, Belongs, Makes, makes-moves}
-use Rattle.order.specs.World.{cellOfBody, cellAt, cell-node, cell-same, World, graph, cell, valid, hold, keys, inTree, worldOf, Sound}
-use Rattle.order.specs.Stages.{stages, Stage, BaseAt, RouteAt, Meets, Arrived, Locked, Owning, Holding}
-use Rattle.order.specs.Change.{Other, Change}
-use Rattle.order.specs.Survive.{base-at, route-at, arrived}
-use Rattle.order.specs.Steady.{Safe, Any, Touched, as-was, by-me, let-go, Calm, calm, same-in, steady}
+use Rattle.graph.specs.Graph.{summit, hung, Belongs, Makes, makes-moves}
+use Rattle.order.specs.World.{cellOfBody, cellAt, cell-node, cell-same, World, graph, cell, valid, hold, keys, inTree, worldOf}
+use Rattle.order.specs.Stages.{Stage, BaseAt, Locked, Owning, Holding}
+use Rattle.order.specs.Change.{Change}
+use Rattle.order.specs.Survive.{base-at, arrived}
+use Rattle.order.specs.Steady.{Safe, Any, Touched, as-was, by-me, let-go, Calm, calm, steady}
 use Rattle.order.specs.Bridge.{place-at, thread-me, thread-other, put-new, put-old}
 use Rattle.order.specs.Walks.{held-in}
-use Rattle.order.specs.Quiet.{Result, One, self}
-use Rattle.order.specs.RowsWalk.{at-phase}
+use Rattle.order.specs.Ordered.{Ordered, Stepped}
+use Rattle.order.specs.Quiet.{One, self}
+use Rattle.order.specs.AtPhase.{at-phase}
 use Rattle.order.specs.RowsLock.{release5-kept}
 
 -- the operation brings in no key but its own
@@ -52,8 +52,8 @@ base-cell (Route k l r) ks e = absurd (true≢false e)
 module _ {w w′ : World} {thread : ℕ → Thread} {made me B ks k : ℕ} {p : Place} (safe : Safe w thread made) (o : One w w′ B p) (base : BaseAt w B)
     (holds : hold w B ≡ me) (holder : p .lock .holder ≡ hold w B) (flag : p .valid ≡ valid w B) (body : p .body ≡ Base ks)
     (path : Walk (cell w) (by k) summit B) (few : (j : ℕ) → has ks j ≡ true → (j ≡ k → ⊥) → has (keys w B) j ≡ true) where
-  cells : (x : ℕ) → cell w′ x ≡ cell w x
-  cells x = go (compared x B)
+  pub commit-cells : (x : ℕ) → cell w′ x ≡ cell w x
+  commit-cells x = go (compared x B)
     where
       nodes : (root : ℕ) (place : ℕ → Place) → cellAt root place B ≡ cellOfBody (place B .body)
       nodes root place = cell-node root place B (λ e. omega (arith, base .small))
@@ -69,10 +69,10 @@ module _ {w w′ : World} {thread : ℕ → Thread} {made me B ks k : ℕ} {p : 
   makes : Makes (graph w) (cell w′) (w′ .own)
   makes =
       record {
-        cells = λ x u. cells x;
+        cells = λ x u. commit-cells x;
         owns = λ x u. o .own x;
         loose = λ x e. sym (o .own x) ∙ e;
-        bare = λ x e. ap (λ (c : Cell). c .route) (cells x) ∙ safe .sound .good .bare x (sym (o .own x) ∙ e);
+        bare = λ x e. ap (λ (c : Cell). c .route) (commit-cells x) ∙ safe .sound .good .bare x (sym (o .own x) ∙ e);
       }
 
   other-keys : (x : ℕ) → (x ≡ B → ⊥) → keys w′ x ≡ keys w x
@@ -109,7 +109,7 @@ module _ {w w′ : World} {thread : ℕ → Thread} {made me B ks k : ℕ} {p : 
   commit-keys = ap keysOf (o .new) ∙ ap (λ (b : Body). keysOf (record { lock = p .lock; valid = p .valid; body = b })) body
 
   belongs : Belongs (graph w′) (keys w′)
-  belongs = record { leads = λ x i r j h. go x i (ap (λ (c : Cell). c .route) (sym (cells x)) ∙ r) j h (compared x B) (compared j k) }
+  belongs = record { leads = λ x i r j h. go x i (ap (λ (c : Cell). c .route) (sym (commit-cells x)) ∙ r) j h (compared x B) (compared j k) }
     where
       was : (x : ℕ) → inTree w′ x → inTree w x
       was x i = rw (o .tree) at i
@@ -138,14 +138,14 @@ module _ {w w′ : World} {thread : ℕ → Thread} {made me B ks k : ℕ} {p : 
         entry = rw (o .root) (safe .sound .entry);
         room = safe .sound .room;
         fresh = λ x a b. o .own x ∙ safe .sound .fresh x a b;
-        many = rw (routes-same (cell w) (cell w′) summit (λ x l. ap (λ (c : Cell). c .route) (cells x))) (safe .sound .many);
+        many = rw (routes-same (cell w) (cell w′) summit (λ x l. ap (λ (c : Cell). c .route) (commit-cells x))) (safe .sound .many);
       }) c
 
 -- f keeps holder, flag and body
 Stores : (Place → Place) → Type 0
 Stores f = (q : Place) → (f q .lock .holder ≡ q .lock .holder) × (f q .valid ≡ q .valid) × (f q .body ≡ q .body)
 
-module _ {s : State} (r : Result s) (len : length (s .threads) ≡ 8) (room : length (s .places) ≡ 128) {me : ℕ} (l : me ≤ 7)
+module _ {s : State} (r : Ordered s) (len : length (s .threads) ≡ 8) (room : length (s .places) ≡ 128) {me : ℕ} (l : me ≤ 7)
     (e : threadAt s me .phase ≡ 5) where
   abbrev B : ℕ
   B = threadAt s me .base
@@ -172,7 +172,7 @@ module _ {s : State} (r : Result s) (len : length (s .threads) ≡ 8) (room : le
   commit-row : placeAt s B .valid ≡ true → (n : ℕ) (f : Place → Place) → Stores f
       → ((w′ : World) → Holding w′ me B × (Owning w′ me k P B) × (keys w′ B ≡ ks) → (a m : ℕ)
       → Stage w′ me (atPhase n (setAnswer a m (threadAt s me))))
-      → Result (apply s me (commits (viewOf s me) n (f (withKeys ks (placeAt s B)))))
+      → Stepped r me (apply s me (commits (viewOf s me) n (f (withKeys ks (placeAt s B)))))
   unfolding commits apply put viewOf viewBefore Stores
   commit-row v n f t d =
       let plan = commits (viewOf s me) n (f (withKeys ks (placeAt s B))) in
@@ -212,18 +212,26 @@ module _ {s : State} (r : Result s) (len : length (s .threads) ≡ 8) (room : le
             commit-safe (r .safe) o base (c .holds) holder flag body (m .path) few (thread-other s me plan) not8
             (rw (thread-me s me plan len l)
             (d w′ (record { base = base′; holds = holds′ }, owning, commit-keys (r .safe) o base (c .holds) holder flag body (m .path) few) _ _));
+        unmoved = λ z.
+            record {
+              tree = refl;
+              cells = λ x h. commit-cells (r .safe) o base (c .holds) holder flag body (m .path) few x;
+              keys = λ x h n. ap keysOf (o .old x (n e));
+            };
+        kinds = λ x z. change .moves .kind x (λ u. true≢false (sym z ∙ good .bare x u)) ∙ z;
       }
 
   ends : (w′ : World) → Holding w′ me B × (Owning w′ me k P B) × (keys w′ B ≡ ks) → (a m : ℕ)
       → Stage w′ me (atPhase 25 (setAnswer a m (threadAt s me)))
   ends w′ h a m = record { holds = h .0 }
 
-  pub row5-kept : Result (apply s me (row5 (viewOf s me)))
+  -- row 5 keeps the order
+  pub row5-kept : Stepped r me (apply s me (row5 (viewOf s me)))
   unfolding row5 decides viewOf viewBefore Stores
   row5-kept = valid-or-not (placeAt s B .valid) refl
     where
       decided : placeAt s B .valid ≡ true → (a b g d : Bool) → ltb (size ks) 2 ≡ b → eqb P none ≡ d
-          → Result (apply s me (cond a (cond b (commits (viewOf s me) 25 (zero (withKeys ks (placeAt s B)))) (commits (viewOf s me) 6 (withKeys ks (placeAt s B))))
+          → Stepped r me (apply s me (cond a (cond b (commits (viewOf s me) 25 (zero (withKeys ks (placeAt s B)))) (commits (viewOf s me) 6 (withKeys ks (placeAt s B))))
           (cond g (cond d (commits (viewOf s me) 25 (zero (withKeys ks (placeAt s B)))) (commits (viewOf s me) 9 (withKeys ks (placeAt s B))))
           (commits (viewOf s me) 25 (withKeys ks (placeAt s B))))))
       decided v true true g d x y = commit-row v 25 zero (λ q. (refl, refl, refl)) ends
@@ -237,7 +245,7 @@ module _ {s : State} (r : Result s) (len : length (s .threads) ≡ 8) (room : le
       decided v false b false d x y = commit-row v 25 (λ q. q) (λ q. (refl, refl, refl)) ends
 
       valid-or-not : (b : Bool) → placeAt s B .valid ≡ b
-          → Result (apply s me (cond b (decides (viewOf s me) (withKeys ks (placeAt s B)))
+          → Stepped r me (apply s me (cond b (decides (viewOf s me) (withKeys ks (placeAt s B)))
           (stores1 (viewOf s me) (atPhase 1 (threadAt s me)) (at B (release (placeAt s B))))))
       valid-or-not true v = decided v (aboveMax (viewOf s me)) (ltb (size ks) 2) (belowMin (viewOf s me)) (eqb P none) refl refl
       valid-or-not false v = release5-kept r len room l e

@@ -1,39 +1,38 @@
 -- Row 12: a base with the keys of B and N is made.
 use mathlib.Core.Bool.{Bool, true, false, cond, not, _||_, true≢false}
 use mathlib.Core.Path.{_≡_, refl, sym, ap, _∙_}
-use Prim.Native.Nat.{ℕ, _+_, _*_, _≤_, _<_}
+use Prim.Native.Nat.{ℕ, _+_, _*_, _≤_}
 use native.Mathlib.Omega.{arith}
-use lib.Dec.{ltb, eqb}
-use lib.ListN.{getD, length}
+use lib.Dec.{ltb}
+use lib.ListN.{length}
 use borrow.Author.Tests.{ltb-false}
 use Rattle.keys.specs.Keys.{has, union}
-use Rattle.rules.specs.State.{newNode, zeroPlace, placeAt, threadAt}
-use Rattle.rules.specs.Registers.{atPhase, setMade}
+use Rattle.rules.specs.State.{newNode, placeAt, threadAt}
 use Rattle.rules.specs.Places.{keysOf}
-use Rattle.rules.specs.Rows.{at, noStore, noJoin, join, row12}
+use Rattle.rules.specs.Rows.{at, noJoin, join, row12}
 use Rattle.rules.specs.Step.{viewBefore, viewOf, put, apply}
 use Rattle.rules.specs.declared.state.Body.the-variants.{Base}
 use Rattle.rules.specs.declared.state.Place.{Place}
-use Rattle.rules.specs.declared.state.Thread.{Thread}
 use Rattle.rules.specs.declared.state.State.{State}
 use Rattle.graph.specs.Cases.{Same, same, apart, compared, Amount, none, some, amount}
 use Rattle.graph.specs.Count.{routes, routes-same}
-use Rattle.graph.specs.Walk.{Cell, kid, along, Walk, walks-meet}
+use Rattle.graph.specs.Walk.{Cell, kid, walks-meet}
 use Rattle.graph.specs.Tree.{count, kid-in}
-use Rattle.graph.specs.Graph.{summit, hung, Route, Good}
-use Rattle.order.specs.World.{cellOfBody, cell-node, World, graph, cell, valid, hold, keys, inTree, worldOf, Sound}
-use Rattle.order.specs.Stages.{stages, Stage, BaseAt, RouteAt, Taken, Pairing}
-use Rattle.order.specs.Change.{Other, Holds, Change}
+use Rattle.graph.specs.Graph.{summit, hung, Route}
+use Rattle.order.specs.World.{cellOfBody, cell-node, cell-same, World, graph, cell, valid, keys, inTree, worldOf, Sound}
+use Rattle.order.specs.Stages.{Taken, Pairing}
+use Rattle.order.specs.Change.{Holds, Change}
 use Rattle.order.specs.Survive.{base-at, holding, held-keys, joining}
-use Rattle.order.specs.Steady.{Safe, Any}
+use Rattle.order.specs.Steady.{Any}
 use Rattle.order.specs.Bridge.{place-at, thread-me, thread-other, put-new, put-old}
 use Rattle.order.specs.Walks.{held-in}
-use Rattle.order.specs.Quiet.{Result, self}
-use Rattle.order.specs.RowsWalk.{at-phase}
+use Rattle.order.specs.Ordered.{Ordered, Stepped}
+use Rattle.order.specs.Quiet.{self}
+use Rattle.order.specs.AtPhase.{at-phase}
 use Rattle.order.specs.RowsLocks.{no-join-kept}
-use Rattle.order.specs.Makes.{given, Adds, adds-change, adds-own, adds-kind, adds-bare, adds-safe}
+use Rattle.order.specs.Makes.{given, Adds, adds-change, adds-own, adds-still, adds-kind, adds-bare, adds-safe}
 
-module _ {s : State} (r : Result s) (len : length (s .threads) ≡ 8) (room : length (s .places) ≡ 128) {me : ℕ} (l : me ≤ 7)
+module _ {s : State} (r : Ordered s) (len : length (s .threads) ≡ 8) (room : length (s .places) ≡ 128) {me : ℕ} (l : me ≤ 7)
     (e : threadAt s me .phase ≡ 12) where
   abbrev w : World
   w = worldOf s (r .tree) (r .own)
@@ -149,7 +148,7 @@ module _ {s : State} (r : Result s) (len : length (s .threads) ≡ 8) (room : le
         kind x (same q) = rw q (pairs .union .base ∙ sym (adds-bare (r .safe) adds l n (omega arith) (omega arith)))
         kind x (apart q) = adds-kind (r .safe) adds l x (λ a b. q (omega arith))
 
-    join-kept : Result (apply s me (join (viewOf s me)))
+    join-kept : Stepped r me (apply s me (join (viewOf s me)))
     unfolding apply join viewOf viewBefore
     join-kept =
         record {
@@ -158,13 +157,21 @@ module _ {s : State} (r : Result s) (len : length (s .threads) ≡ 8) (room : le
           safe =
               adds-safe (r .safe) adds l many (thread-other s me (join (viewOf s me))) (λ z. omega arith)
               (rw (thread-me s me (join (viewOf s me)) len l) (record { holds = pairs }));
+          unmoved = λ z.
+              record {
+                tree = refl;
+                cells = λ x h. cell-same (w .place) (w′ .place) x refl (ap (λ (q : Place). q .body) (adds-still (r .safe) adds l x h));
+                keys = λ x h n. ap keysOf (adds-still (r .safe) adds l x h);
+              };
+          kinds = λ x z. change .moves .kind x (λ u. true≢false (sym z ∙ sound .good .bare x u)) ∙ z;
         }
 
-  pub row12-kept : Result (apply s me (row12 (viewOf s me)))
+  -- row 12 keeps the order
+  pub row12-kept : Stepped r me (apply s me (row12 (viewOf s me)))
   unfolding row12 viewOf viewBefore
   row12-kept = go (placeAt s N .valid) (ltb 127 n) refl refl
     where
-      go : (a b : Bool) → placeAt s N .valid ≡ a → ltb 127 n ≡ b → Result (apply s me (cond (not a || b) (noJoin (viewOf s me)) (join (viewOf s me))))
+      go : (a b : Bool) → placeAt s N .valid ≡ a → ltb 127 n ≡ b → Stepped r me (apply s me (cond (not a || b) (noJoin (viewOf s me)) (join (viewOf s me))))
       go false b y z = no-join-kept r len room l e
       go true true y z = no-join-kept r len room l e
       go true false y z = join-kept y (ltb-false 127 n z)

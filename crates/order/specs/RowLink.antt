@@ -1,7 +1,7 @@
 -- Row 23: the link is hung.
 use mathlib.Core.Bool.{Bool, true, false, _||_, true≢false}
 use mathlib.Core.Path.{_≡_, refl, sym, ap, _∙_}
-use Prim.Native.Nat.{ℕ, _+_, _≤_, _<_}
+use Prim.Native.Nat.{ℕ, _≤_}
 use native.Mathlib.Omega.{arith}
 use lib.ListN.{getD, length}
 use Rattle.keys.specs.Keys.{has, union}
@@ -10,20 +10,20 @@ use Rattle.rules.specs.State.{zeroPlace, placeAt, threadAt}
 use Rattle.rules.specs.Registers.{atPhase}
 use Rattle.rules.specs.Rows.{hangs, row23}
 use Rattle.rules.specs.Step.{viewBefore, viewOf, apply}
-use Rattle.rules.specs.declared.state.Thread.{Thread}
 use Rattle.rules.specs.declared.state.State.{State}
 use Rattle.rules.specs.declared.row.Plan.{Plan}
 use Rattle.graph.specs.Cases.{is-some, is-le}
-use Rattle.graph.specs.Walk.{Cell, by, Walk, here}
-use Rattle.graph.specs.Tree.{Tree, tip, count, leaf}
+use Rattle.graph.specs.Walk.{by, Walk, here}
+use Rattle.graph.specs.Tree.{tip, count, leaf}
+use Rattle.graph.specs.Slot.{slot-route}
 use Rattle.graph.specs.Graph.{summit, hung, hung-made}
 use Rattle.graph.specs.Hang.{Hangs, hang}
-use Rattle.order.specs.World.{World, graph, cell, hold, keys, worldOf, Sound}
-use Rattle.order.specs.Stages.{stages, Stage, BaseAt, Linking, Parent}
-use Rattle.order.specs.Steady.{Safe}
+use Rattle.order.specs.World.{World, graph, cell, keys, worldOf, Sound}
+use Rattle.order.specs.Stages.{BaseAt, Linking, Parent}
 use Rattle.order.specs.Bridge.{thread-me, thread-other}
-use Rattle.order.specs.Quiet.{Result}
-use Rattle.order.specs.RowsWalk.{at-phase}
+use Rattle.order.specs.Ordered.{Ordered, quietPhase, Stepped}
+use Rattle.order.specs.AtPhase.{at-phase}
+use Rattle.order.specs.Effects.{Replaces}
 use Rattle.order.specs.Hooks.{Hooks, hooks}
 use Rattle.order.specs.Hung.{hungWorld, hung-base, hung-belongs, hung-safe}
 
@@ -36,7 +36,7 @@ either : (a b : Bool) → (a || b) ≡ true → Either a b
 either true b e = one refl
 either false b e = other e
 
-module _ {s : State} (r : Result s) (len : length (s .threads) ≡ 8) (room : length (s .places) ≡ 128) {me : ℕ} (l : me ≤ 7)
+module _ {s : State} (r : Ordered s) (len : length (s .threads) ≡ 8) (room : length (s .places) ≡ 128) {me : ℕ} (l : me ≤ 7)
     (e : threadAt s me .phase ≡ 23) where
   abbrev w : World
   w = worldOf s (r .tree) (r .own)
@@ -121,7 +121,8 @@ module _ {s : State} (r : Result s) (len : length (s .threads) ≡ 8) (room : le
         base = m .kind B (hung-made (c .0 .base .hung)) ∙ c .0 .base .base;
       }
 
-  pub row23-kept : Result (apply s me (row23 (viewOf s me)))
+  -- row 23 keeps the order
+  pub row23-kept : Stepped r me (apply s me (row23 (viewOf s me)))
   unfolding row23 apply hangs viewOf viewBefore
   row23-kept =
       record {
@@ -146,4 +147,12 @@ module _ {s : State} (r : Result s) (len : length (s .threads) ≡ 8) (room : le
                 c .0 .differ,
               );
             }));
+        unmoved = λ q. absurd (true≢false (sym q ∙ ap quietPhase e));
+        kinds = λ n q. slot-route (k .slot) n ∙ q;
       }
+
+  -- and moves the tree so
+  pub row23-effect : Replaces r (apply s me (row23 (viewOf s me))) (row23-kept .tree) N (tip M)
+  unfolding row23-kept row23 viewOf viewBefore
+  row23-effect =
+      record { bare = record { kinds = slot-route (k .slot); keys = k .keysets }; counted = hang (r .safe .sound .good) hangs-M .counted }

@@ -4,33 +4,33 @@ use mathlib.Core.Path.{_≡_, refl, sym, ap, _∙_}
 use Prim.Native.Nat.{ℕ, _+_, _≤_, _<_}
 use native.Mathlib.Omega.{arith}
 use lib.Dec.{ltb}
-use lib.ListN.{getD, length}
+use lib.ListN.{length}
 use Rattle.keys.specs.Keys.{has}
-use Rattle.rules.specs.State.{zeroPlace, placeAt, threadAt}
+use Rattle.rules.specs.State.{placeAt, threadAt}
 use Rattle.rules.specs.Registers.{atPhase}
 use Rattle.rules.specs.Places.{childOn}
 use Rattle.rules.specs.Rows.{hangs, row19}
 use Rattle.rules.specs.Step.{viewBefore, viewOf, apply}
-use Rattle.rules.specs.declared.state.Thread.{Thread}
 use Rattle.rules.specs.declared.state.State.{State}
 use Rattle.rules.specs.declared.row.Plan.{Plan}
 use Rattle.graph.specs.Cases.{Way, onto, off, way, Same, same, apart, compared, Amount, none, some, amount, is, is-same, is-apart, is-some}
-use Rattle.graph.specs.Walk.{Cell, kid, by, along, next, Walk, walk-from, first, walk-stops}
-use Rattle.graph.specs.Tree.{Tree, count, kid-in}
+use Rattle.graph.specs.Walk.{Cell, kid, walk-from, first, walk-stops}
+use Rattle.graph.specs.Tree.{count, kid-in}
 use Rattle.graph.specs.Slot.{Child, kept, slot, child, slot-route, slot-key}
 use Rattle.graph.specs.Graph.{summit, hung, Route, Moves, hung-made}
-use Rattle.graph.specs.Splice.{Splices, Spliced, splice, splice-belongs, taken-over}
-use Rattle.order.specs.World.{World, graph, cell, valid, hold, keys, inTree, outOfTree, worldOf, Sound}
-use Rattle.order.specs.Stages.{stages, Stage, BaseAt, RouteAt, Dying, Under, Linking, Closing}
-use Rattle.order.specs.Steady.{Safe, as-was}
-use Rattle.order.specs.Cuts.{before, Doomed, Cuts, cuts}
+use Rattle.graph.specs.Splice.{Splices, splice, splice-belongs, taken-over}
+use Rattle.order.specs.World.{World, graph, cell, valid, hold, inTree, outOfTree, worldOf, Sound}
+use Rattle.order.specs.Stages.{BaseAt, RouteAt, Dying, Under, Linking, Closing}
+use Rattle.order.specs.Steady.{as-was}
+use Rattle.order.specs.Cuts.{before, Doomed, cuts}
 use Rattle.order.specs.Bridge.{reads-kid, thread-me, thread-other}
 use Rattle.order.specs.Walks.{route-of, kid-small, along-first}
-use Rattle.order.specs.Quiet.{Result}
-use Rattle.order.specs.RowsWalk.{at-phase}
+use Rattle.order.specs.Ordered.{Ordered, quietPhase, Stepped}
+use Rattle.order.specs.AtPhase.{at-phase}
+use Rattle.order.specs.Effects.{Drops}
 use Rattle.order.specs.Hooks.{Hooks, hooks}
 
-module _ {s : State} (r : Result s) (len : length (s .threads) ≡ 8) (room : length (s .places) ≡ 128) {me : ℕ} (l : me ≤ 7)
+module _ {s : State} (r : Ordered s) (len : length (s .threads) ≡ 8) (room : length (s .places) ≡ 128) {me : ℕ} (l : me ≤ 7)
     (e : threadAt s me .phase ≡ 19) where
   abbrev w : World
   w = worldOf s (r .tree) (r .own)
@@ -238,7 +238,8 @@ module _ {s : State} (r : Result s) (len : length (s .threads) ≡ 8) (room : le
                 (not (ltb (cell w P .key) (cell w G .key)))),
           ))
 
-  pub row19-kept : Result (apply s me (row19 (viewOf s me)))
+  -- row 19 keeps the order
+  pub row19-kept : Stepped r me (apply s me (row19 (viewOf s me)))
   unfolding row19 apply hangs viewOf viewBefore
   row19-kept =
       record {
@@ -270,6 +271,8 @@ module _ {s : State} (r : Result s) (len : length (s .threads) ≡ 8) (room : le
               fresh = sound .fresh;
             })
             (rw thread-is (record { holds = (links, closes, k .holders P ∙ c .0 .holds, λ q. k .holders G ∙ c .1 .holds q) }));
+        unmoved = λ q. absurd (true≢false (sym q ∙ ap quietPhase e));
+        kinds = λ x q. slot-route (k .slot) x ∙ q;
       }
     where
       held : (x : ℕ) → Leaver x → hold w x ≡ me
@@ -284,3 +287,8 @@ module _ {s : State} (r : Result s) (len : length (s .threads) ≡ 8) (room : le
       flag : (x : ℕ) → valid w′ x ≡ true → Leaver x → ⊥
       flag x f (isP q) = true≢false (sym f ∙ k .flags x ∙ ap (λ (n : ℕ). valid w n) q ∙ c .0 .invalidP)
       flag x f (isB q) = true≢false (sym f ∙ k .flags x ∙ ap (λ (n : ℕ). valid w n) q ∙ c .0 .invalidB)
+
+  -- and moves the tree so
+  pub row19-effect : Drops r (apply s me (row19 (viewOf s me))) (row19-kept .tree) P B
+  unfolding row19-kept row19 viewOf viewBefore
+  row19-effect = record { bare = record { kinds = slot-route (k .slot); keys = k .keysets }; counted = counted }

@@ -1,41 +1,35 @@
 -- Row 7: the split is hung.
-use mathlib.Core.Bool.{Bool, true, false, cond, not, _&&_, _||_, true≢false}
+use mathlib.Core.Bool.{Bool, true, false, not, true≢false}
 use mathlib.Core.Path.{_≡_, refl, sym, ap, _∙_}
-use Prim.Native.Nat.{ℕ, _+_, _≤_, _<_}
+use Prim.Native.Nat.{ℕ, _≤_, _<_}
 use native.Mathlib.Omega.{arith}
-use lib.Dec.{ltb, eqb}
+use lib.Dec.{ltb}
 use lib.ListN.{getD, length}
-use Rattle.keys.specs.Keys.{has, union, below, from}
-use Rattle.keys.specs.Laws.{has-below, has-from, has-union}
+use Rattle.keys.specs.Keys.{has}
+use Rattle.keys.specs.Laws.{has-below, has-from}
 use Rattle.rules.specs.State.{zeroPlace, placeAt, threadAt}
 use Rattle.rules.specs.Registers.{atPhase}
 use Rattle.rules.specs.Rows.{hangs, row7}
 use Rattle.rules.specs.Step.{viewBefore, viewOf, apply}
-use Rattle.rules.specs.declared.state.Place.{Place}
-use Rattle.rules.specs.declared.state.Thread.{Thread}
 use Rattle.rules.specs.declared.state.State.{State}
 use Rattle.rules.specs.declared.row.Plan.{Plan}
+use Rattle.states.specs.Tests.{both}
 use Rattle.graph.specs.Cases.{is-some, is-two}
-use Rattle.graph.specs.Walk.{Cell, kid, by, next, Walk, here, step}
-use Rattle.graph.specs.Tree.{Tree, tip, fork, count, Shape, leaf, branch, kid-in, Stands, top, inL, inR, stands}
-use Rattle.graph.specs.Graph.{summit, hung, unmade, Good, hung-made}
+use Rattle.graph.specs.Walk.{kid, by, Walk, here, step}
+use Rattle.graph.specs.Tree.{Tree, tip, fork, count, leaf, branch, kid-in, Stands, top, inL, inR, stands}
+use Rattle.graph.specs.Slot.{slot-route}
+use Rattle.graph.specs.Graph.{summit}
 use Rattle.graph.specs.Hang.{Hangs, hang}
-use Rattle.order.specs.World.{cellAt, World, graph, cell, valid, hold, keys, inTree, outOfTree, worldOf, Late, Sound}
-use Rattle.order.specs.Stages.{stages, Stage, BaseAt, RouteAt, Splitting}
-use Rattle.order.specs.Steady.{Safe}
+use Rattle.order.specs.World.{World, graph, cell, hold, keys, inTree, worldOf, Sound}
+use Rattle.order.specs.Stages.{Splitting}
 use Rattle.order.specs.Bridge.{thread-me, thread-other}
-use Rattle.order.specs.Quiet.{Result}
-use Rattle.order.specs.RowsWalk.{at-phase}
+use Rattle.order.specs.Ordered.{Ordered, quietPhase, Stepped}
+use Rattle.order.specs.AtPhase.{at-phase}
+use Rattle.order.specs.Effects.{Replaces}
 use Rattle.order.specs.Hooks.{Hooks, hooks}
 use Rattle.order.specs.Hung.{hungWorld, hung-out-of, hung-base, hung-belongs, hung-safe}
 
--- the parts of a passed test
-both : (a b : Bool) → (a && b) ≡ true → (a ≡ true) × (b ≡ true)
-both true true e = (refl, refl)
-both true false e = absurd (true≢false (sym e))
-both false b e = absurd (true≢false (sym e))
-
-module _ {s : State} (r : Result s) (len : length (s .threads) ≡ 8) (room : length (s .places) ≡ 128) {me : ℕ} (l : me ≤ 7) where
+module _ {s : State} (r : Ordered s) (len : length (s .threads) ≡ 8) (room : length (s .places) ≡ 128) {me : ℕ} (l : me ≤ 7) where
   abbrev w : World
   w = worldOf s (r .tree) (r .own)
 
@@ -163,7 +157,8 @@ module _ {s : State} (r : Result s) (len : length (s .threads) ≡ 8) (room : le
             (sym (has-from (keys w B) (cell w M .key) j) ∙ ap (λ (n : ℕ). has n j) (sym (c .keysR)) ∙ ap (λ (n : ℕ). has (keys w n) j) (sym (is-some q)) ∙ h) in
             (leads j (p .1), step M (here (sym (is-some q))) (c .route) (rw (p .0)))
 
-    pub row7-kept : Result (apply s me (row7 (viewOf s me)))
+    -- row 7 keeps the order
+    pub row7-kept : Stepped r me (apply s me (row7 (viewOf s me)))
     unfolding row7 apply hangs viewOf viewBefore
     row7-kept =
         record {
@@ -188,4 +183,12 @@ module _ {s : State} (r : Result s) (len : length (s .threads) ≡ 8) (room : le
                           (c .owning .base) (c .owning .holds);
                     };
               }));
+          unmoved = λ q. absurd (true≢false (sym q ∙ ap quietPhase e));
+          kinds = λ x q. slot-route (k .slot) x ∙ q;
         }
+
+    -- and moves the tree so
+    pub row7-effect : Replaces r (apply s me (row7 (viewOf s me))) (row7-kept .tree) B z
+    unfolding row7-kept row7 viewOf viewBefore
+    row7-effect =
+        record { bare = record { kinds = slot-route (k .slot); keys = k .keysets }; counted = hang (r .safe .sound .good) hangs-z .counted }

@@ -1,37 +1,34 @@
--- The rows that change one lock or one flag: 3, 4, 8, 11, 13, 17, 18, 24, 25, and of 5 and 6 the answers that make and commit nothing.
-use mathlib.Core.Bool.{Bool, true, false, cond, not, _&&_, true≢false}
+-- The rows that change one lock or one flag: 3, 4, 8, 11, 13, 24, 25, and of 5 and 6 the answers that make and commit nothing.
+use mathlib.Core.Bool.{Bool, true, false, cond}
 use mathlib.Core.Path.{_≡_, refl, sym, ap, _∙_, subst}
-use Prim.Native.Nat.{ℕ, _+_, _≤_, _<_}
+use Prim.Native.Nat.{ℕ, _≤_, _<_}
 use native.Mathlib.Omega.{arith}
-use lib.Dec.{ltb, eqb}
 use lib.ListN.{getD, length}
-use borrow.Author.Tests.{eqb-true, eqb-false}
-use Rattle.rules.specs.State.{none, nobody, zeroPlace, freshThread, placeAt, threadAt}
-use Rattle.rules.specs.Registers.{atPhase, setPrev, setBase, setWalk, setNeighbour, setGrandparent, setMade, setSide}
+use borrow.Author.Tests.{eqb-true}
+use Rattle.rules.specs.State.{nobody, zeroPlace, freshThread, placeAt, threadAt}
+use Rattle.rules.specs.Registers.{atPhase, setNeighbour}
 use Rattle.rules.specs.Places.{isFree, withLock, tried, taken3, taken4, release, zero, invalid}
-use Rattle.rules.specs.Rows.{at, only, goes, stores1, row3, row4, noSplit, row8, row11, row13, row17, row18, row24, row25}
+use Rattle.rules.specs.Rows.{at, only, stores1, row3, row4, noSplit, row8, row11, row13, row24, row25}
 use Rattle.rules.specs.Step.{viewBefore, viewOf, apply}
 use Rattle.rules.specs.declared.state.Place.{Place}
-use Rattle.rules.specs.declared.state.Lock.{Lock}
 use Rattle.rules.specs.declared.state.Thread.{Thread}
 use Rattle.rules.specs.declared.state.State.{State}
-use Rattle.graph.specs.Walk.{Cell, kid, by, along, next, here}
-use Rattle.graph.specs.Graph.{summit, hung}
-use Rattle.order.specs.World.{World, graph, cell, valid, hold, worldOf, Sound}
-use Rattle.order.specs.Stages.{stages, Stage, BaseAt, RouteAt, Arrived, Locked, Owning, Dense, Replaced, Reached, Taken, Pairing, Ready, Dying, Over, Under, Holding}
-use Rattle.order.specs.Change.{Other, Change}
-use Rattle.order.specs.Survive.{base-at, route-at, holding, arrived, reached, pairing, dying, over, holdingOf}
-use Rattle.order.specs.Steady.{Safe, Any}
+use Rattle.graph.specs.Graph.{summit}
+use Rattle.order.specs.World.{World, valid, hold, worldOf, Sound}
+use Rattle.order.specs.Stages.{stages, Stage, Arrived, Owning, Reached, Pairing, Holding}
+use Rattle.order.specs.Change.{Change}
+use Rattle.order.specs.Survive.{base-at, arrived, reached, pairing, holdingOf}
+use Rattle.order.specs.Steady.{Any}
 use Rattle.order.specs.Bridge.{place-at}
-use Rattle.order.specs.Walks.{route-of, held-in}
-use Rattle.order.specs.Quiet.{Result, only-row, Touch, stays, mine, frees, fades, One, one-change, self, one-row}
-use Rattle.order.specs.RowsWalk.{at-phase}
+use Rattle.order.specs.Ordered.{Ordered, Stepped}
+use Rattle.order.specs.Quiet.{only-row, Touch, stays, mine, frees, fades, one-change, self, one-row}
+use Rattle.order.specs.AtPhase.{at-phase}
 
 -- a place taken by me: a lock with me as holder
-pub Takes : ℕ → (Place → Place) → Type 0
+unfoldable pub Takes : ℕ → (Place → Place) → Type 0
 Takes me f = (q : Place) → (f q .lock .holder ≡ me) × (f q .valid ≡ q .valid) × (f q .body ≡ q .body)
 
-module _ {s : State} (r : Result s) (size : length (s .threads) ≡ 8) (room : length (s .places) ≡ 128) {me : ℕ} (l : me ≤ 7) where
+module _ {s : State} (r : Ordered s) (size : length (s .threads) ≡ 8) (room : length (s .places) ≡ 128) {me : ℕ} (l : me ≤ 7) where
   abbrev w : World
   w = worldOf s (r .tree) (r .own)
 
@@ -56,9 +53,9 @@ module _ {s : State} (r : Result s) (size : length (s .threads) ≡ 8) (room : l
   free-is x m e = ap (λ (q : Place). q .lock .holder) (sym (place-at s x m)) ∙ eqb-true (placeAt s x .lock .holder) nobody e
 
   -- a row that takes the lock of a free node
-  takes : (n : ℕ) → threadAt s me .phase ≡ n → (n ≡ 8 → ⊥) → (x : ℕ) → x < summit → isFree (placeAt s x) ≡ true → (th : Thread) (f : Place → Place)
+  pub takes : (n : ℕ) → threadAt s me .phase ≡ n → (n ≡ 8 → ⊥) → (x : ℕ) → x < summit → isFree (placeAt s x) ≡ true → (th : Thread) (f : Place → Place)
       → Takes me f → ((w′ : World) → Change w w′ 9 Any (Unit {0}) → hold w′ x ≡ me → Stage w′ me th)
-      → Result (apply s me (stores1 (viewOf s me) th (at x (f (placeAt s x)))))
+      → Stepped r me (apply s me (stores1 (viewOf s me) th (at x (f (placeAt s x)))))
   unfolding Takes
   takes n e h x m free th f t c =
       let q = getD (s .places) x zeroPlace in
@@ -71,20 +68,22 @@ module _ {s : State} (r : Result s) (size : length (s .threads) ≡ 8) (room : l
 
   locks : (n : ℕ) → threadAt s me .phase ≡ n → (n ≡ 8 → ⊥) → Arrived w (threadAt s me .key) (threadAt s me .prev) (threadAt s me .base)
       → (f : Place → Place) → Takes me f → (b : Bool) → isFree (placeAt s (threadAt s me .base)) ≡ b
-      → Result (apply s me (cond b (stores1 (viewOf s me) (atPhase 5 (threadAt s me)) (at (threadAt s me .base) (f (placeAt s (threadAt s me .base)))))
+      → Stepped r me (apply s me (cond b (stores1 (viewOf s me) (atPhase 5 (threadAt s me)) (at (threadAt s me .base) (f (placeAt s (threadAt s me .base)))))
       (only (viewOf s me) (atPhase 4 (threadAt s me)))))
   locks n e h a f t true q =
       takes n e h (threadAt s me .base) (a .base .small) q (atPhase 5 (threadAt s me)) f t
       (λ w′ c k. record { holds = record { arrived = arrived (sound .good) c me (self l) (threadAt s me .key) (threadAt s me .prev) (threadAt s me .base) a; holds = k } })
   locks n e h a f t false q = only-row r size l (atPhase 4 (threadAt s me)) (not8 n e h) (record { holds = a })
 
-  pub row3-kept : threadAt s me .phase ≡ 3 → Result (apply s me (row3 (viewOf s me)))
+  -- row 3 keeps the order
+  pub row3-kept : threadAt s me .phase ≡ 3 → Stepped r me (apply s me (row3 (viewOf s me)))
   unfolding row3 viewOf viewBefore Takes
   row3-kept e =
       locks 3 e (λ q. omega arith) (at-phase 3 e stage) (λ q. withLock (taken3 me (s .settings) (q .lock)) q) (λ q. (refl, refl, refl))
       (isFree (placeAt s (threadAt s me .base))) refl
 
-  pub row4-kept : threadAt s me .phase ≡ 4 → Result (apply s me (row4 (viewOf s me)))
+  -- row 4 keeps the order
+  pub row4-kept : threadAt s me .phase ≡ 4 → Stepped r me (apply s me (row4 (viewOf s me)))
   unfolding row4 viewOf viewBefore Takes
   row4-kept e =
       locks 4 e (λ q. omega arith) (at-phase 4 e stage) (λ q. withLock (taken4 me (s .settings) (q .lock)) q) (λ q. (refl, refl, refl))
@@ -95,7 +94,7 @@ module _ {s : State} (r : Result s) (size : length (s .threads) ≡ 8) (room : l
   -- B's statistics are 0 and the operation is at its end
   pub zeroes : (n : ℕ) → threadAt s me .phase ≡ n → (n ≡ 8 → ⊥) → Holding w me (threadAt s me .base) → (th : Thread)
       → th .phase ≡ 25 → th .base ≡ threadAt s me .base
-      → Result (apply s me (stores1 (viewOf s me) th (at (threadAt s me .base) (zero (placeAt s (threadAt s me .base))))))
+      → Stepped r me (apply s me (stores1 (viewOf s me) th (at (threadAt s me .base) (zero (placeAt s (threadAt s me .base))))))
   zeroes n e h b th p q =
       one-row r size room l th (threadAt s me .base) zero (b .base .small) (λ q. refl) (stays refl refl)
       (λ w′ o. (
@@ -110,19 +109,20 @@ module _ {s : State} (r : Result s) (size : length (s .threads) ≡ 8) (room : l
   holding-of : Owning w me (threadAt s me .key) (threadAt s me .prev) (threadAt s me .base) → Holding w me (threadAt s me .base)
   holding-of o = record { base = o .base; holds = o .holds }
 
-  pub no-split-kept : threadAt s me .phase ≡ 6 → Result (apply s me (noSplit (viewOf s me)))
+  pub no-split-kept : threadAt s me .phase ≡ 6 → Stepped r me (apply s me (noSplit (viewOf s me)))
   unfolding noSplit viewOf viewBefore
   no-split-kept e = zeroes 6 e (λ q. omega arith) (holding-of (at-phase 6 e stage .owning)) (atPhase 25 (threadAt s me)) refl refl
 
   -- the release at phase 5, B being invalid
   pub release5-kept : threadAt s me .phase ≡ 5
-      → Result (apply s me (stores1 (viewOf s me) (atPhase 1 (threadAt s me)) (at (threadAt s me .base) (release (placeAt s (threadAt s me .base))))))
+      → Stepped r me (apply s me (stores1 (viewOf s me) (atPhase 1 (threadAt s me)) (at (threadAt s me .base) (release (placeAt s (threadAt s me .base))))))
   release5-kept e =
       let c = at-phase 5 e stage in
       one-row r size room l (atPhase 1 (threadAt s me)) (threadAt s me .base) release (c .arrived .base .small) (λ q. refl)
       (own-touch (c .holds) (λ z. z)) (λ w′ o. (λ z. absurd (not8 5 e (λ q. omega arith) z), record { holds = c .arrived .key }))
 
-  pub row8-kept : threadAt s me .phase ≡ 8 → Result (apply s me (row8 (viewOf s me)))
+  -- row 8 keeps the order
+  pub row8-kept : threadAt s me .phase ≡ 8 → Stepped r me (apply s me (row8 (viewOf s me)))
   unfolding row8 viewOf viewBefore
   row8-kept e =
       let c = at-phase 8 e stage in
@@ -139,7 +139,8 @@ module _ {s : State} (r : Result s) (size : length (s .threads) ≡ 8) (room : l
         },
       ))
 
-  pub row11-kept : threadAt s me .phase ≡ 11 → Result (apply s me (row11 (viewOf s me)))
+  -- row 11 keeps the order
+  pub row11-kept : threadAt s me .phase ≡ 11 → Stepped r me (apply s me (row11 (viewOf s me)))
   unfolding row11 viewOf viewBefore Takes
   row11-kept e = go (isFree (placeAt s N)) refl
     where
@@ -156,7 +157,7 @@ module _ {s : State} (r : Result s) (size : length (s .threads) ≡ 8) (room : l
       th n = atPhase n (setNeighbour N (threadAt s me))
 
       go : (b : Bool) → isFree (placeAt s N) ≡ b
-          → Result (apply s me (cond b (stores1 (viewOf s me) (th 12) (at N (withLock (tried me (placeAt s N .lock)) (placeAt s N))))
+          → Stepped r me (apply s me (cond b (stores1 (viewOf s me) (th 12) (at N (withLock (tried me (placeAt s N .lock)) (placeAt s N))))
           (stores1 (viewOf s me) (th 25) (at B (zero (placeAt s B))))))
       go true q =
           takes 11 e (λ z. omega arith) N (c .base .small) q (th 12) (λ p. withLock (tried me (p .lock)) p) (λ p. (refl, refl, refl))
@@ -171,7 +172,8 @@ module _ {s : State} (r : Result s) (size : length (s .threads) ≡ 8) (room : l
           })
       go false q = zeroes 11 e (λ z. omega arith) (record { base = c .joining .base; holds = c .joining .holds }) (th 25) refl refl
 
-  pub row13-kept : threadAt s me .phase ≡ 13 → Result (apply s me (row13 (viewOf s me)))
+  -- row 13 keeps the order
+  pub row13-kept : threadAt s me .phase ≡ 13 → Stepped r me (apply s me (row13 (viewOf s me)))
   unfolding row13 viewOf viewBefore Takes
   row13-kept e = go (isFree (placeAt s P)) refl
     where
@@ -182,7 +184,7 @@ module _ {s : State} (r : Result s) (size : length (s .threads) ≡ 8) (room : l
       c = at-phase 13 e stage
 
       go : (b : Bool) → isFree (placeAt s P) ≡ b
-          → Result (apply s me (cond b (stores1 (viewOf s me) (atPhase 14 (threadAt s me)) (at P (withLock (tried me (placeAt s P .lock)) (placeAt s P))))
+          → Stepped r me (apply s me (cond b (stores1 (viewOf s me) (atPhase 14 (threadAt s me)) (at P (withLock (tried me (placeAt s P .lock)) (placeAt s P))))
           (only (viewOf s me) (atPhase 13 (threadAt s me)))))
       go true q =
           takes 13 e (λ z. omega arith) P (c .joining .small) q (atPhase 14 (threadAt s me)) (λ p. withLock (tried me (p .lock)) p)
@@ -199,95 +201,8 @@ module _ {s : State} (r : Result s) (size : length (s .threads) ≡ 8) (room : l
           })
       go false q = only-row r size l (atPhase 13 (threadAt s me)) (not8 13 e (λ z. omega arith)) (record { holds = c })
 
-  -- Dying by the registers, and its survival
-  abbrev dies : World → Type 0
-  dies x = Dying x me (threadAt s me .side) (threadAt s me .prev) (threadAt s me .base) (threadAt s me .neighbour) (threadAt s me .made)
-
-  dies-on : {w′ : World} {K : ℕ → Type 0} {F : Type 0} → Change w w′ 9 K F → K (threadAt s me .prev) → K (threadAt s me .base)
-      → K (threadAt s me .neighbour) → dies w → dies w′
-  dies-on c π κ ν d =
-      dying (sound .good) c me (self l) (threadAt s me .side) (threadAt s me .prev) (threadAt s me .base) (threadAt s me .neighbour)
-      (threadAt s me .made) π κ ν d
-
-  pub row17-kept : threadAt s me .phase ≡ 17 → Result (apply s me (row17 (viewOf s me)))
-  unfolding row17 viewOf viewBefore Takes
-  row17-kept e = go (isFree (placeAt s G)) refl
-    where
-      G : ℕ
-      G = threadAt s me .grandparent
-
-      c : dies w × Over w (threadAt s me .prev) G
-      c = at-phase 17 e stage
-
-      go : (b : Bool) → isFree (placeAt s G) ≡ b
-          → Result (apply s me (cond b (stores1 (viewOf s me) (atPhase 18 (threadAt s me)) (at G (withLock (tried me (placeAt s G .lock)) (placeAt s G))))
-          (only (viewOf s me) (atPhase 17 (threadAt s me)))))
-      go true q =
-          takes 17 e (λ z. omega arith) G (c .1 .small) q (atPhase 18 (threadAt s me)) (λ p. withLock (tried me (p .lock)) p) (λ p. (refl, refl, refl))
-          (λ w′ d k.
-          record {
-            holds = (
-              dies-on d tt tt tt (c .0),
-              over (sound .good) d me (self l) (threadAt s me .side) (threadAt s me .prev) (threadAt s me .base) (threadAt s me .neighbour)
-                  (threadAt s me .made) G (c .0) (c .1),
-              k,
-            );
-          })
-      go false q = only-row r size l (atPhase 17 (threadAt s me)) (not8 17 e (λ z. omega arith)) (record { holds = c })
-
-  pub row18-kept : threadAt s me .phase ≡ 18 → Result (apply s me (row18 (viewOf s me)))
-  unfolding row18 viewOf viewBefore
-  row18-kept e = go (placeAt s G .valid) refl
-    where
-      G : ℕ
-      G = threadAt s me .grandparent
-
-      P : ℕ
-      P = threadAt s me .prev
-
-      c : dies w × Over w P G × (hold w G ≡ me)
-      c = at-phase 18 e stage
-
-      differs : (x : ℕ) → cell w x .route ≡ false → x ≡ G → ⊥
-      differs x b q = true≢false (sym (c .1 .at .route) ∙ ap (λ (n : ℕ). cell w n .route) (sym q) ∙ b)
-
-      above : G < P
-      above =
-          rw (c .1 .child) at
-          (sound .good .rises G (route-of sound (c .1 .at)) (c .1 .small) (not (ltb (cell w P .key) (cell w G .key)))
-          (rw (c .1 .child) (c .0 .pairing .joining .prev .route)))
-
-      go : (b : Bool) → placeAt s G .valid ≡ b
-          → Result (apply s me (cond b (only (viewOf s me) (atPhase 19 (threadAt s me)))
-          (stores1 (viewOf s me) (atPhase 15 (threadAt s me)) (at G (release (placeAt s G))))))
-      go true q =
-          only-row r size l (atPhase 19 (threadAt s me)) (not8 18 e (λ z. omega arith))
-          (record {
-            holds = (
-              c .0,
-              record {
-                at = c .1 .at;
-                above =
-                    held-in sound (c .1 .at .hung) (c .2) (ap (λ (p : Place). p .valid) (sym (place-at s G (c .1 .small))) ∙ q)
-                    (not8 18 e (λ z. omega arith));
-                child = c .1 .child;
-                holds = λ z. c .2;
-              },
-            );
-          })
-      go false q =
-          one-row r size room l (atPhase 15 (threadAt s me)) G release (c .1 .small) (λ p. refl) (own-touch (c .2) (λ z. z))
-          (λ w′ o. (
-            λ z. absurd (not8 18 e (λ y. omega arith) z),
-            record {
-              holds =
-                  dies-on (one-change o (λ x. x ≡ G → ⊥) {F = Unit {0}} (sound .good) refl (frees (λ z. z refl) refl)) (λ z. omega (arith, above))
-                  (differs (threadAt s me .base) (c .0 .pairing .joining .base .base))
-                  (differs (threadAt s me .neighbour) (c .0 .pairing .neighbour .base)) (c .0);
-            },
-          ))
-
-  pub row24-kept : threadAt s me .phase ≡ 24 → Result (apply s me (row24 (viewOf s me)))
+  -- row 24 keeps the order
+  pub row24-kept : threadAt s me .phase ≡ 24 → Stepped r me (apply s me (row24 (viewOf s me)))
   unfolding row24 viewOf viewBefore
   row24-kept e =
       let c = at-phase 24 e stage in
@@ -302,7 +217,8 @@ module _ {s : State} (r : Result s) (size : length (s .threads) ≡ 8) (room : l
         },
       ))
 
-  pub row25-kept : threadAt s me .phase ≡ 25 → Result (apply s me (row25 (viewOf s me)))
+  -- row 25 keeps the order
+  pub row25-kept : threadAt s me .phase ≡ 25 → Stepped r me (apply s me (row25 (viewOf s me)))
   unfolding row25 viewOf viewBefore
   row25-kept e =
       let c = at-phase 25 e stage in

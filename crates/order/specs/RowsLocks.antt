@@ -1,31 +1,32 @@
 -- The rows that change several locks or flags: 14, 20, and of 12 the answer that makes nothing.
-use mathlib.Core.Bool.{Bool, true, false, cond, not, true≢false}
+use mathlib.Core.Bool.{Bool, true, false, cond, true≢false}
 use mathlib.Core.List.{List}
 use mathlib.Core.Path.{_≡_, refl, sym, ap, _∙_}
-use Prim.Native.Nat.{ℕ, _+_, _≤_, _<_}
+use Prim.Native.Nat.{ℕ, _≤_, _<_}
 use native.Mathlib.Omega.{arith}
-use lib.Dec.{ltb, eqb}
+use lib.Dec.{eqb}
 use lib.ListN.{getD, length}
-use borrow.Author.Tests.{eqb-true, eqb-false, ne-eqb}
-use Rattle.rules.specs.State.{none, nobody, zeroPlace, placeAt, threadAt}
+use borrow.Author.Tests.{eqb-false, ne-eqb}
+use Rattle.rules.specs.State.{none, zeroPlace, placeAt, threadAt}
 use Rattle.rules.specs.Registers.{atPhase}
 use Rattle.rules.specs.Places.{release, zero, invalid}
-use Rattle.rules.specs.Rows.{at, noStore, stores3, stores1, stores2, noJoin, row14, row20}
+use Rattle.rules.specs.Rows.{at, noStore, stores2, noJoin, row14, row20}
 use Rattle.rules.specs.Step.{viewBefore, viewOf, put, apply}
 use Rattle.rules.specs.declared.state.Place.{Place}
-use Rattle.rules.specs.declared.state.Thread.{Thread}
 use Rattle.rules.specs.declared.state.State.{State}
 use Rattle.rules.specs.declared.row.Plan.{Plan}
 use Rattle.graph.specs.Cases.{Same, same, apart, compared}
 use Rattle.graph.specs.Graph.{summit, hung}
-use Rattle.order.specs.World.{World, graph, cell, valid, hold, worldOf, Sound}
-use Rattle.order.specs.Stages.{stages, Stage, Taken, Pairing, Ready, Dying, Linking, Closing, Holding}
-use Rattle.order.specs.Change.{Other, Change}
-use Rattle.order.specs.Survive.{base-at, route-at, holding, pairing, linking, closing, holdingOf}
-use Rattle.order.specs.Steady.{Safe, Any, calm}
+use Rattle.order.specs.World.{World, cell, valid, hold, worldOf, Sound}
+use Rattle.order.specs.Stages.{Stage, Taken, Ready, Linking, Closing}
+use Rattle.order.specs.Change.{Change}
+use Rattle.order.specs.Survive.{holding, pairing, holdingOf}
+use Rattle.order.specs.SurviveLink.{linking, closing}
+use Rattle.order.specs.Steady.{Any, calm}
 use Rattle.order.specs.Bridge.{place-at, put-new, put-old, put-length}
-use Rattle.order.specs.Quiet.{Result, Quiet, quiet-calm, Touch, stays, mine, frees, fades, quiet-row, self, one-change, one-row}
-use Rattle.order.specs.RowsWalk.{at-phase}
+use Rattle.order.specs.Ordered.{Ordered, Stepped}
+use Rattle.order.specs.Quiet.{Quiet, quiet-calm, Touch, stays, mine, frees, fades, quiet-row, self, one-change, one-row}
+use Rattle.order.specs.AtPhase.{at-phase}
 
 -- what holds of the old place and the new at each node where one is stored, and elsewhere, holds at every node
 put-each : (R : ℕ → Place → Place → Type 0) (old : ℕ → Place) (ps : List Place) (n : ℕ) (p : Place) → length ps ≡ 128 → n < summit → R n (old n) p
@@ -36,7 +37,7 @@ put-each R old ps n p e l a x b = go (compared x n)
     go (same q) = rw q (rw (put-new ps n p e l) a)
     go (apart h) = rw (put-old ps n p x h) (b h)
 
-module _ {s : State} (r : Result s) (size : length (s .threads) ≡ 8) (room : length (s .places) ≡ 128) {me : ℕ} (l : me ≤ 7) where
+module _ {s : State} (r : Ordered s) (size : length (s .threads) ≡ 8) (room : length (s .places) ≡ 128) {me : ℕ} (l : me ≤ 7) where
   abbrev w : World
   w = worldOf s (r .tree) (r .own)
 
@@ -71,7 +72,8 @@ module _ {s : State} (r : Result s) (size : length (s .threads) ≡ 8) (room : l
   abbrev same-body : ℕ → Place → Place → Type 0
   same-body x q p = p .body ≡ q .body
 
-  pub row14-kept : threadAt s me .phase ≡ 14 → Result (apply s me (row14 (viewOf s me)))
+  -- row 14 keeps the order
+  pub row14-kept : threadAt s me .phase ≡ 14 → Stepped r me (apply s me (row14 (viewOf s me)))
   unfolding row14 viewOf viewBefore apply
   row14-kept e =
       quiet-row r size l (row14 (viewOf s me)) refl still (λ x h. each (λ x q p. Touch me (Unit {0}) (Unit {0}) q p) (own-touch (c .holds) (λ z. refl))
@@ -118,7 +120,7 @@ module _ {s : State} (r : Result s) (size : length (s .threads) ≡ 8) (room : l
           (λ x h. each (λ x q p. Touch 9 (Unit {0}) ⊥ q p) (fades (λ z. z) refl refl) (fades (λ z. z) refl refl) (fades (λ z. z) refl refl) x
           (λ z y v. stays refl refl)))
 
-  pub no-join-kept : threadAt s me .phase ≡ 12 → Result (apply s me (noJoin (viewOf s me)))
+  pub no-join-kept : threadAt s me .phase ≡ 12 → Stepped r me (apply s me (noJoin (viewOf s me)))
   unfolding noJoin viewOf viewBefore apply put
   no-join-kept e =
       rw (ne-eqb B N (λ z. c .differ (sym z)))
@@ -173,7 +175,8 @@ module _ {s : State} (r : Result s) (size : length (s .threads) ≡ 8) (room : l
         );
       }
 
-  pub row20-kept : threadAt s me .phase ≡ 20 → Result (apply s me (row20 (viewOf s me)))
+  -- row 20 keeps the order
+  pub row20-kept : threadAt s me .phase ≡ 20 → Stepped r me (apply s me (row20 (viewOf s me)))
   unfolding row20 viewOf viewBefore apply put
   row20-kept e = go (eqb G none) refl
     where
@@ -206,7 +209,7 @@ module _ {s : State} (r : Result s) (size : length (s .threads) ≡ 8) (room : l
       kN = (differs N P (c .0 .neighbour .base) (c .0 .prev .route), differs N G (c .0 .neighbour .base) (c .1 .at .route))
 
       go : (b : Bool) → eqb G none ≡ b
-          → Result (apply s me (stores2 (viewOf s me) (atPhase 21 (threadAt s me)) (at P (release (placeAt s P)))
+          → Stepped r me (apply s me (stores2 (viewOf s me) (atPhase 21 (threadAt s me)) (at P (release (placeAt s P)))
           (cond b noStore (at G (release (placeAt s G))))))
       go true q =
           one-row r size room l (atPhase 21 (threadAt s me)) P release (c .0 .small) (λ p. refl) (own-touch (c .2) (λ z. z))

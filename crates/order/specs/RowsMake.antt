@@ -1,43 +1,38 @@
 -- The rows that make nodes: 6 and 12.
-use mathlib.Core.Bool.{Bool, true, false, cond, not, _||_, true≢false}
+use mathlib.Core.Bool.{Bool, true, false, cond, true≢false}
 use mathlib.Core.List.{List}
 use mathlib.Core.Path.{_≡_, refl, sym, ap, _∙_}
 use Prim.Native.Nat.{ℕ, _+_, _*_, _≤_, _<_}
 use native.Mathlib.Omega.{arith}
-use lib.Dec.{ltb, eqb}
-use lib.ListN.{getD, length}
-use borrow.Author.Tests.{ltb-true, ltb-false, not-false}
-use Rattle.keys.specs.Keys.{has, union, below, from, size, splitKey}
+use lib.Dec.{ltb}
+use lib.ListN.{length}
+use borrow.Author.Tests.{ltb-true, ltb-false}
+use Rattle.keys.specs.Keys.{below, from, size, splitKey}
 use Rattle.keys.specs.Sizes.{split-has, split-small}
-use Rattle.rules.specs.State.{newNode, zeroPlace, placeAt, threadAt}
-use Rattle.rules.specs.Registers.{atPhase, setMade}
+use Rattle.rules.specs.State.{newNode, placeAt, threadAt}
 use Rattle.rules.specs.Places.{keysOf}
-use Rattle.rules.specs.Rows.{at, noStore, noSplit, split, row6, noJoin, join, row12}
+use Rattle.rules.specs.Rows.{at, noSplit, split, row6}
 use Rattle.rules.specs.Step.{viewBefore, viewOf, put, apply}
-use Rattle.rules.specs.declared.state.Body.{Body}
 use Rattle.rules.specs.declared.state.Body.the-variants.{Base, Route}
 use Rattle.rules.specs.declared.state.Place.{Place}
-use Rattle.rules.specs.declared.state.Thread.{Thread}
 use Rattle.rules.specs.declared.state.State.{State}
 use Rattle.graph.specs.Cases.{Same, same, apart, compared}
 use Rattle.graph.specs.Count.{routes, routes-more}
-use Rattle.graph.specs.Walk.{Cell, kid, walks-meet}
-use Rattle.graph.specs.Tree.{count, kid-in}
-use Rattle.graph.specs.Graph.{summit, hung, unmade, Good}
-use Rattle.order.specs.World.{cellOfBody, cell-node, World, graph, cell, valid, hold, keys, inTree, worldOf, Sound}
-use Rattle.order.specs.Stages.{stages, Stage, BaseAt, RouteAt, Owning, Dense, Splitting, Taken, Pairing}
-use Rattle.order.specs.Change.{Other, Holds, Change}
-use Rattle.order.specs.Survive.{base-at, holding, owning, held-keys, joining}
-use Rattle.order.specs.Steady.{Safe, Any}
+use Rattle.graph.specs.Walk.{Cell}
+use Rattle.graph.specs.Graph.{summit, hung}
+use Rattle.order.specs.World.{cellOfBody, cell-node, cell-same, World, cell, keys, worldOf, Sound}
+use Rattle.order.specs.Stages.{Stage, Dense, Splitting}
+use Rattle.order.specs.Change.{Change}
+use Rattle.order.specs.Survive.{owning, held-keys}
+use Rattle.order.specs.Steady.{Any}
 use Rattle.order.specs.Bridge.{place-at, thread-me, thread-other, put-new, put-old, put-length}
-use Rattle.order.specs.Walks.{held-in}
-use Rattle.order.specs.Quiet.{Result, self}
-use Rattle.order.specs.RowsWalk.{at-phase}
+use Rattle.order.specs.Ordered.{Ordered, Stepped}
+use Rattle.order.specs.Quiet.{self}
+use Rattle.order.specs.AtPhase.{at-phase}
 use Rattle.order.specs.RowsLock.{no-split-kept}
-use Rattle.order.specs.RowsLocks.{no-join-kept}
-use Rattle.order.specs.Makes.{given, Adds, adds-change, adds-own, adds-kind, adds-bare, adds-safe}
+use Rattle.order.specs.Makes.{given, Adds, adds-change, adds-own, adds-still, adds-kind, adds-bare, adds-safe}
 
-module _ {s : State} (r : Result s) (len : length (s .threads) ≡ 8) (room : length (s .places) ≡ 128) {me : ℕ} (l : me ≤ 7) where
+module _ {s : State} (r : Ordered s) (len : length (s .threads) ≡ 8) (room : length (s .places) ≡ 128) {me : ℕ} (l : me ≤ 7) where
   abbrev w : World
   w = worldOf s (r .tree) (r .own)
 
@@ -167,7 +162,7 @@ module _ {s : State} (r : Result s) (len : length (s .threads) ≡ 8) (room : le
             rw y (ap (λ (a : Cell). a .route) (node (n + 1) pR (omega arith) at-R) ∙ sym (adds-bare (r .safe) adds l (n + 1) (omega arith) (omega arith)))
         kind x h (apart z) (apart y) = adds-kind (r .safe) adds l x (λ a b. absurd (omega arith))
 
-    pub split-kept : Result (apply s me (split (viewOf s me)))
+    pub split-kept : Stepped r me (apply s me (split (viewOf s me)))
     unfolding apply split viewOf viewBefore
     split-kept =
         record {
@@ -176,12 +171,20 @@ module _ {s : State} (r : Result s) (len : length (s .threads) ≡ 8) (room : le
           safe =
               adds-safe (r .safe) adds l many (thread-other s me (split (viewOf s me))) (λ z. omega arith)
               (rw (thread-me s me (split (viewOf s me)) len l) (record { holds = splits }));
+          unmoved = λ z.
+              record {
+                tree = refl;
+                cells = λ x h. cell-same (w .place) (w′ .place) x refl (ap (λ (q : Place). q .body) (adds-still (r .safe) adds l x h));
+                keys = λ x h n. ap keysOf (adds-still (r .safe) adds l x h);
+              };
+          kinds = λ x z. change .moves .kind x (λ u. true≢false (sym z ∙ sound .good .bare x u)) ∙ z;
         }
 
-  pub row6-kept : threadAt s me .phase ≡ 6 → Result (apply s me (row6 (viewOf s me)))
+  -- row 6 keeps the order
+  pub row6-kept : threadAt s me .phase ≡ 6 → Stepped r me (apply s me (row6 (viewOf s me)))
   unfolding row6 viewOf viewBefore
   row6-kept e = go (ltb 125 n) refl
     where
-      go : (b : Bool) → ltb 125 n ≡ b → Result (apply s me (cond b (noSplit (viewOf s me)) (split (viewOf s me))))
+      go : (b : Bool) → ltb 125 n ≡ b → Stepped r me (apply s me (cond b (noSplit (viewOf s me)) (split (viewOf s me))))
       go true z = no-split-kept r len room l e
       go false z = split-kept e (ltb-false 125 n z)

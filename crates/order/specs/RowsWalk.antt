@@ -1,32 +1,28 @@
 -- The rows that store no place: 1, 2, 9, 10, 15, 16, 21, 22.
-use mathlib.Core.Bool.{Bool, true, false, cond, not, _&&_, true≢false}
-use mathlib.Core.Path.{_≡_, refl, sym, ap, _∙_, subst}
-use Prim.Native.Nat.{ℕ, _+_, _≤_, _<_}
+use mathlib.Core.Bool.{Bool, true, false, cond, not}
+use mathlib.Core.Path.{_≡_, refl, sym, ap, _∙_}
+use Prim.Native.Nat.{ℕ, _≤_, _<_}
 use native.Mathlib.Omega.{arith}
 use lib.Dec.{ltb, eqb}
-use lib.ListN.{getD, length}
+use lib.ListN.{length}
 use borrow.Author.Tests.{eqb-true, eqb-false}
-use Rattle.rules.specs.State.{none, zeroPlace, placeAt, threadAt}
-use Rattle.rules.specs.Registers.{atPhase, setPrev, setBase, setWalk, setNeighbour, setGrandparent, setMade, setSide}
+use Rattle.rules.specs.State.{none, placeAt, threadAt}
+use Rattle.rules.specs.Registers.{atPhase, setPrev, setBase, setWalk, setGrandparent, setSide}
 use Rattle.rules.specs.Places.{isRoute, routeKey, childOn, childBy}
-use Rattle.rules.specs.Rows.{only, searches, seeks, farSide, farChild, nearChild, towardsPrev, row1, row2, row9, row10, row15, row16, row21, row22}
+use Rattle.rules.specs.Rows.{searches, seeks, row1, row2, row9, row10, row15, row16, row21, row22}
 use Rattle.rules.specs.Step.{viewBefore, nextOf, viewOf, apply}
-use Rattle.rules.specs.declared.state.Place.{Place}
 use Rattle.rules.specs.declared.state.Thread.{Thread}
 use Rattle.rules.specs.declared.state.State.{State}
-use Rattle.graph.specs.Walk.{Cell, kid, by, along, next, here}
+use Rattle.graph.specs.Walk.{kid, by, along, next, here}
 use Rattle.graph.specs.Graph.{summit}
 use Rattle.graph.specs.Track.{Track, on}
 use Rattle.order.specs.World.{World, graph, cell, worldOf, Sound}
-use Rattle.order.specs.Stages.{stages, Stage, RouteAt, Searching, Arrived, Turning, Joining, Seeking, Dying, Towards, Over, Linking, Closing, Descending}
-use Rattle.order.specs.Steady.{Safe}
+use Rattle.order.specs.Stages.{Stage, RouteAt, Joining, Dying, Towards, Linking, Closing, Descending}
+use Rattle.order.specs.AtPhase.{at-phase}
 use Rattle.order.specs.Bridge.{reads-route, reads-key, reads-kid, reads-next, summit-next}
 use Rattle.order.specs.Walks.{summit-at, kid-small, search-route, search-base, along-first, along-then, seek-route, seek-base, fixed, under-summit, towards-from, towards-root, parent-over, descend-far, descend-on, descend-ends}
-use Rattle.order.specs.Quiet.{Result, only-row}
-
--- the condition of a thread at a known phase
-pub at-phase : {w : World} {me : ℕ} {t : Thread} (n : ℕ) → t .phase ≡ n → Stage w me t → getD (stages w me t) n ⊥
-at-phase {w} {me} {t} n e c = subst (λ (m : ℕ). getD (stages w me t) m ⊥) e (c .holds)
+use Rattle.order.specs.Ordered.{Ordered, Stepped}
+use Rattle.order.specs.Quiet.{only-row}
 
 module _ {w : World} {thread : ℕ → Thread} {made : ℕ} (sound : Sound w thread made) {me : ℕ} (t : Thread) where
   -- after a step of the search from x to y
@@ -43,7 +39,7 @@ module _ {w : World} {thread : ℕ → Thread} {made : ℕ} (sound : Sound w thr
   sought x y j a m p u n true e = record { holds = seek-route sound x y j a m p u n (sym e) }
   sought x y j a m p u n false e = record { holds = seek-base sound x y j a m u n (sym e) }
 
-module _ {s : State} (r : Result s) (size : length (s .threads) ≡ 8) {me : ℕ} (l : me ≤ 7) where
+module _ {s : State} (r : Ordered s) (size : length (s .threads) ≡ 8) {me : ℕ} (l : me ≤ 7) where
   abbrev w : World
   w = worldOf s (r .tree) (r .own)
 
@@ -56,7 +52,8 @@ module _ {s : State} (r : Result s) (size : length (s .threads) ≡ 8) {me : ℕ
   not8 : (n : ℕ) → threadAt s me .phase ≡ n → (n ≡ 8 → ⊥) → threadAt s me .phase ≡ 8 → ⊥
   not8 n e h q = h (sym e ∙ q)
 
-  pub row1-kept : threadAt s me .phase ≡ 1 → Result (apply s me (row1 (viewOf s me)))
+  -- row 1 keeps the order
+  pub row1-kept : threadAt s me .phase ≡ 1 → Stepped r me (apply s me (row1 (viewOf s me)))
   unfolding row1 searches viewOf viewBefore nextOf
   row1-kept e =
       let k = at-phase 1 e mine in
@@ -65,7 +62,8 @@ module _ {s : State} (r : Result s) (size : length (s .threads) ≡ 8) {me : ℕ
       (searched sound (threadAt s me) summit (s .root) k (summit-at sound) (on (here refl)) (summit-next s (r .tree) (r .own) (threadAt s me .key) k)
       (sound .entry) (isRoute (viewOf s me .reached)) (ap isRoute reached ∙ reads-route s (r .tree) (r .own) (s .root) (sound .entry)))
 
-  pub row2-kept : threadAt s me .phase ≡ 2 → Result (apply s me (row2 (viewOf s me)))
+  -- row 2 keeps the order
+  pub row2-kept : threadAt s me .phase ≡ 2 → Stepped r me (apply s me (row2 (viewOf s me)))
   unfolding row2 searches viewOf viewBefore nextOf
   row2-kept e =
       let c = at-phase 2 e mine in
@@ -79,7 +77,8 @@ module _ {s : State} (r : Result s) (size : length (s .threads) ≡ 8) {me : ℕ
       (searched sound (threadAt s me) x y (c .key) (c .at) (c .track) (sym n) m (isRoute (viewOf s me .reached))
       (ap isRoute reached ∙ reads-route s (r .tree) (r .own) y m))
 
-  pub row9-kept : threadAt s me .phase ≡ 9 → Result (apply s me (row9 (viewOf s me)))
+  -- row 9 keeps the order
+  pub row9-kept : threadAt s me .phase ≡ 9 → Stepped r me (apply s me (row9 (viewOf s me)))
   unfolding row9 seeks viewOf viewBefore nextOf
   row9-kept e =
       let c = at-phase 9 e mine in
@@ -95,7 +94,8 @@ module _ {s : State} (r : Result s) (size : length (s .threads) ≡ 8) {me : ℕ
       (sought sound (setSide v (threadAt s me)) P y j (j .prev) (c .small) (omega arith) (on (here refl)) (along-first sound P v ∙ n)
       (isRoute (viewOf s me .reached)) (ap isRoute reached ∙ reads-route s (r .tree) (r .own) y m))
 
-  pub row10-kept : threadAt s me .phase ≡ 10 → Result (apply s me (row10 (viewOf s me)))
+  -- row 10 keeps the order
+  pub row10-kept : threadAt s me .phase ≡ 10 → Stepped r me (apply s me (row10 (viewOf s me)))
   unfolding row10 seeks viewOf viewBefore nextOf
   row10-kept e =
       let c = at-phase 10 e mine in
@@ -110,7 +110,8 @@ module _ {s : State} (r : Result s) (size : length (s .threads) ≡ 8) {me : ℕ
       (sought sound (threadAt s me) x y (c .joining) (c .at) (c .small) (omega (arith, c .rise)) (c .track)
       (along-then sound P x v (c .rise) ∙ n) (isRoute (viewOf s me .reached)) (ap isRoute reached ∙ reads-route s (r .tree) (r .own) y m))
 
-  pub row15-kept : threadAt s me .phase ≡ 15 → Result (apply s me (row15 (viewOf s me)))
+  -- row 15 keeps the order
+  pub row15-kept : threadAt s me .phase ≡ 15 → Stepped r me (apply s me (row15 (viewOf s me)))
   unfolding row15 viewOf viewBefore
   row15-kept e = only-row r size l _ (not8 15 e (λ q. omega arith)) (go (eqb (s .root) (threadAt s me .prev)) refl)
     where
@@ -122,7 +123,8 @@ module _ {s : State} (r : Result s) (size : length (s .threads) ≡ 8) {me : ℕ
       go true q = record { holds = (d, under-summit sound d (eqb-true (s .root) (threadAt s me .prev) q)) }
       go false q = record { holds = (d, towards-root sound d (eqb-false (s .root) (threadAt s me .prev) q)) }
 
-  pub row16-kept : threadAt s me .phase ≡ 16 → Result (apply s me (row16 (viewOf s me)))
+  -- row 16 keeps the order
+  pub row16-kept : threadAt s me .phase ≡ 16 → Stepped r me (apply s me (row16 (viewOf s me)))
   unfolding row16 viewOf viewBefore
   row16-kept e = only-row r size l _ (not8 16 e (λ q. omega arith)) (go (eqb y P) refl)
     where
@@ -155,7 +157,8 @@ module _ {s : State} (r : Result s) (size : length (s .threads) ≡ 8) {me : ℕ
             );
           }
 
-  pub row21-kept : threadAt s me .phase ≡ 21 → Result (apply s me (row21 (viewOf s me)))
+  -- row 21 keeps the order
+  pub row21-kept : threadAt s me .phase ≡ 21 → Stepped r me (apply s me (row21 (viewOf s me)))
   unfolding row21 viewOf viewBefore
   row21-kept e = only-row r size l _ (not8 21 e (λ q. omega arith)) (go (eqb y N) refl)
     where
@@ -180,7 +183,8 @@ module _ {s : State} (r : Result s) (size : length (s .threads) ≡ 8) {me : ℕ
       go true q = record { holds = (c .0, parent-over sound (c .0) (c .1) (sym n ∙ eqb-true y N q)) }
       go false q = record { holds = (c .0, rw n (descend-far sound (c .0) (c .1) (λ z. eqb-false y N q (n ∙ z)))) }
 
-  pub row22-kept : threadAt s me .phase ≡ 22 → Result (apply s me (row22 (viewOf s me)))
+  -- row 22 keeps the order
+  pub row22-kept : threadAt s me .phase ≡ 22 → Stepped r me (apply s me (row22 (viewOf s me)))
   unfolding row22 viewOf viewBefore nextOf
   row22-kept e = only-row r size l _ (not8 22 e (λ q. omega arith)) (go (isRoute (viewOf s me .reached)) kind)
     where

@@ -1,8 +1,8 @@
 -- What holds of a thread, by its phase. P is prev, B base, N neighbour, G grandparent, M the made node; k is the operation's key, v the kept side.
-use mathlib.Core.Bool.{Bool, true, false, cond, not}
+use mathlib.Core.Bool.{Bool, true, false, not}
 use mathlib.Core.List.{List, [], _∷_}
-use mathlib.Core.Path.{_≡_, refl}
-use Prim.Native.Nat.{ℕ, _+_, _≤_, _<_}
+use mathlib.Core.Path.{_≡_}
+use Prim.Native.Nat.{ℕ, _≤_, _<_}
 use lib.ListN.{getD}
 use Rattle.keys.specs.Keys.{has, union, below, from, size}
 use Rattle.rules.specs.declared.state.Thread.{Thread}

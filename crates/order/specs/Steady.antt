@@ -1,5 +1,5 @@
 -- Steps that leave the tree alone: of registers, locks, statistics, flags and keys, and those that make nodes.
-use mathlib.Core.Bool.{Bool, true, false, cond, not, true≢false}
+use mathlib.Core.Bool.{Bool, true, false, true≢false}
 use mathlib.Core.Path.{_≡_, refl, sym, ap, _∙_}
 use Prim.Native.Nat.{ℕ, _+_, _*_, _≤_, _<_}
 use native.Mathlib.Omega.{arith}
@@ -7,11 +7,10 @@ use Rattle.rules.specs.declared.state.Thread.{Thread}
 use Rattle.graph.specs.Cases.{Same, same, apart, compared}
 use Rattle.graph.specs.Walk.{Cell, kid}
 use Rattle.graph.specs.Count.{routes}
-use Rattle.graph.specs.Tree.{count}
-use Rattle.graph.specs.Graph.{summit, hung, unmade, Graph, Route, Good, Belongs, Moves, Makes, hung-made, makes-good, makes-moves}
+use Rattle.graph.specs.Graph.{summit, hung, unmade, Good, Belongs, Makes, hung-made, makes-good, makes-moves}
 use Rattle.order.specs.World.{World, graph, cell, valid, hold, keys, inTree, outOfTree, Late, Sound}
 use Rattle.order.specs.Stages.{Stage}
-use Rattle.order.specs.Change.{Other, Holds, Kept, Unhung, Keeps, Was, Change}
+use Rattle.order.specs.Change.{Other, Holds, Kept, Change}
 use Rattle.order.specs.Others.{others}
 
 -- the invariant: of the nodes, and of each thread by its phase
@@ -48,6 +47,14 @@ module _ {w w′ : World} {me : ℕ} {K : ℕ → Type 0} {F : Type 0} where
   touched-invalid x e (by-me n f) = f e
   touched-invalid x e (let-go n b) = b ∙ e
   touched-invalid x e (falls n a c b) = b
+
+  -- what is valid was valid
+  pub touched-valid : (x : ℕ) → valid w′ x ≡ true → Touched w w′ me K F x → valid w x ≡ true
+  touched-valid x e t = go (valid w x) refl
+    where
+      go : (b : Bool) → valid w x ≡ b → b ≡ true
+      go true q = refl
+      go false q = absurd (true≢false (sym e ∙ touched-invalid x q t))
 
 -- a thread other than me has what it has by its registers still
 pub still-late : {w w′ : World} {me : ℕ} {thread thread′ : ℕ → Thread} (x : ℕ) → w .own x ≡ hung → Touched w w′ me Any (Unit {0}) x → Late w thread x
@@ -126,13 +133,6 @@ module _ {w w′ : World} {thread thread′ : ℕ → Thread} {made made′ me :
   was-out : (x : ℕ) → outOfTree w′ x → outOfTree w x
   was-out x o = rw (s .calm .tree) at o
 
-  was-valid : (x : ℕ) → w .own x ≡ hung → valid w′ x ≡ true → valid w x ≡ true
-  was-valid x h e = go (valid w x) refl
-    where
-      go : (b : Bool) → valid w x ≡ b → b ≡ true
-      go true q = refl
-      go false q = absurd (true≢false (sym e ∙ touched-invalid x q (s .calm .touched x h)))
-
   new-late : (x : ℕ) → w′ .own x ≡ hung → outOfTree w′ x → valid w′ x ≡ true → Late w′ thread′ x
   new-late x h o e = go (compared (hold w x) me)
     where
@@ -140,7 +140,7 @@ module _ {w w′ : World} {thread thread′ : ℕ → Thread} {made made′ me :
       u = s .calm .makes .loose x h
 
       l : Late w thread x
-      l = safe .sound .late x u (was-out x o) (was-valid x u e)
+      l = safe .sound .late x u (was-out x o) (touched-valid x e (s .calm .touched x u))
 
       go : Same (hold w x) me → Late w′ thread′ x
       go (same q) =

@@ -1,21 +1,18 @@
 -- The conditions of a thread survive a change, one by one.
-use mathlib.Core.Bool.{Bool, true, false, cond, not, true≢false}
-use mathlib.Core.List.{List, [], _∷_}
+use mathlib.Core.Bool.{Bool, true, false, not, true≢false}
 use mathlib.Core.Path.{_≡_, refl, sym, ap, _∙_}
-use Prim.Native.Nat.{ℕ, zero, suc, _+_, _≤_, _<_}
+use Prim.Native.Nat.{ℕ}
 use native.Mathlib.Omega.{arith}
-use lib.Dec.{ltb, eqb}
-use lib.ListN.{getD}
-use Rattle.keys.specs.Keys.{has, union, below, from, size}
-use Rattle.rules.specs.declared.state.Thread.{Thread}
+use lib.Dec.{ltb}
+use Rattle.keys.specs.Keys.{union}
 use Rattle.graph.specs.Cases.{Amount, none, some, amount, Same, same, apart, compared}
-use Rattle.graph.specs.Walk.{Cell, kid, Direction, by, along, next, Walk}
+use Rattle.graph.specs.Walk.{Cell, kid, Direction, by, next, Walk}
 use Rattle.graph.specs.Tree.{count, label-in, kid-in}
-use Rattle.graph.specs.Graph.{summit, hung, unmade, Graph, Route, Good, Moves, hung-made}
-use Rattle.graph.specs.Track.{Track, tracks}
-use Rattle.order.specs.World.{World, graph, cell, valid, hold, keys, inTree, outOfTree, cell-summit, crown}
-use Rattle.order.specs.Stages.{BaseAt, RouteAt, Searching, Meets, Arrived, Locked, Owning, Dense, Mine, Splitting, Replaced, Turning, Joining, Seeking, Reached, Taken, Union, Pairing, Ready, Dying, Towards, Over, Under, Linking, Closing, Descending, Parent, Holding, stages, Stage}
-use Rattle.order.specs.Change.{Other, Holds, Kept, Unhung, Keeps, Was, Change}
+use Rattle.graph.specs.Graph.{summit, hung, Route, Good, Moves, hung-made}
+use Rattle.graph.specs.Track.{tracks}
+use Rattle.order.specs.World.{World, graph, cell, valid, hold, keys, inTree}
+use Rattle.order.specs.Stages.{BaseAt, RouteAt, Searching, Meets, Arrived, Locked, Owning, Dense, Mine, Splitting, Replaced, Turning, Joining, Seeking, Reached, Taken, Union, Pairing, Ready, Dying, Towards, Over, Under, Holding}
+use Rattle.order.specs.Change.{Other, Holds, Change}
 
 module _ {w w′ : World} {me : ℕ} {K : ℕ → Type 0} {F : Type 0} (good : Good (graph w)) (c : Change w w′ me K F) (v : ℕ) (o : Other v me) where
   m : Moves (graph w) (graph w′)
@@ -80,7 +77,7 @@ module _ {w w′ : World} {me : ℕ} {K : ℕ → Type 0} {F : Type 0} (good : G
   pub locked : (k P B : ℕ) → K B → Locked w v k P B → Locked w′ v k P B
   locked k P B κ s = record { arrived = arrived k P B (s .arrived); holds = holding κ (s .arrived .base .hung) (s .holds) }
 
-  route-of : {x : ℕ} → RouteAt w x → Route (graph w) x
+  pub route-of : {x : ℕ} → RouteAt w x → Route (graph w) x
   route-of r = record { hung = r .hung; route = r .route }
 
   -- what a key leads to, where v holds the base
@@ -176,7 +173,7 @@ module _ {w w′ : World} {me : ℕ} {K : ℕ → Type 0} {F : Type 0} (good : G
   taken u P B N κ ν s =
       record { reached = reached u P B N κ (s .reached); holds = holding ν (s .reached .base .hung) (s .holds); differ = s .differ }
 
-  unionOf : (B N M : ℕ) → K B → K N → BaseAt w B → hold w B ≡ v → BaseAt w N → hold w N ≡ v → Union w v B N M → Union w′ v B N M
+  pub unionOf : (B N M : ℕ) → K B → K N → BaseAt w B → hold w B ≡ v → BaseAt w N → hold w N ≡ v → Union w v B N M → Union w′ v B N M
   unionOf B N M κ ν b h n k s =
       let q = c .unhung v M o (s .mine .own) in
       record {
@@ -228,7 +225,7 @@ module _ {w w′ : World} {me : ℕ} {K : ℕ → Type 0} {F : Type 0} (good : G
       record { small = s .small; at = route-at (s .at); differ = s .differ; path = by-key h (m .walks (s .path) i) }
 
   -- the child by P's key of a route, where v holds that child
-  child-by : (P x z : ℕ) → w .own P ≡ hung → RouteAt w x → Holds w v z → next (cell w) (by (cell w P .key)) x ≡ z
+  pub child-by : (P x z : ℕ) → w .own P ≡ hung → RouteAt w x → Holds w v z → next (cell w) (by (cell w P .key)) x ≡ z
       → next (cell w′) (by (cell w′ P .key)) x ≡ z
   child-by P x z h r had e =
       rw (key-of P h)
@@ -254,62 +251,6 @@ module _ {w w′ : World} {me : ℕ} {K : ℕ → Type 0} {F : Type 0} (good : G
       go (same e) = rw e summit-in′
       go (apart n) =
           c .stays v G o (record { hung = s .at .hung; holds = s .holds (omega (arith, s .at .small, n)) }) (s .above)
-
-  pub linking : (u : Bool) (P B N M : ℕ) → K B → K N → Linking w v u P B N M → Linking w′ v u P B N M
-  linking u P B N M κ ν s =
-      let had : Holds w v N = record { hung = s .neighbour .hung; holds = s .holdsN } in
-      let i = c .stays v N o had (s .inside) in
-      record {
-        small = s .small;
-        prev = route-at (s .prev);
-        base = base-at (s .base);
-        neighbour = base-at (s .neighbour);
-        holdsB = holding κ (s .base .hung) (s .holdsB);
-        holdsN = holding ν (s .neighbour .hung) (s .holdsN);
-        differ = s .differ;
-        outP = m .gone P (s .prev .hung) (s .outP);
-        outB = m .gone B (s .base .hung) (s .outB);
-        inside = i;
-        invalidB = c .invalid B (s .base .hung) (s .invalidB);
-        invalidN = c .invalid N (s .neighbour .hung) (s .invalidN);
-        only = λ x r n t e.
-            let q = c .back v x t N o had (s .neighbour .base) r e in
-            c .parent v x t N o had (s .neighbour .base) (q .route) (s .only x (q .route) n t (q .child)) (q .child);
-        reach = λ j e. m .walks (s .reach j (ap (λ (n : ℕ). has n j) (sym (held-keys κ (s .base) (s .holdsB))) ∙ e)) i;
-        union = unionOf B N M κ ν (s .base) (s .holdsB) (s .neighbour) (s .holdsN) (s .union);
-      }
-
-  pub closing : (u : Bool) (P B N M G : ℕ) → Linking w v u P B N M → Closing w u P N G → Closing w′ u P N G
-  closing u P B N M G l s =
-      let had : Holds w v N = record { hung = l .neighbour .hung; holds = l .holdsN } in
-      let f : kid u (cell w′ P) ≡ kid u (cell w P) = ap (λ (x : Cell). kid u x) (m .frozen P (l .prev .hung) (m .gone P (l .prev .hung) (l .outP))) in
-      record {
-        at = route-at (s .at);
-        path = m .walks (s .path) (c .stays v N o had (l .inside));
-        above = λ e.
-            c .parent v G (not (ltb (cell w P .key) (cell w G .key))) N o had (l .neighbour .base) (route-of (s .at)) (s .above (sym f ∙ e))
-            (s .child (sym f ∙ e));
-        child = λ e. child-by P G N (l .prev .hung) (s .at) had (s .child (sym f ∙ e));
-      }
-
-  pub descending : (u : Bool) (P B N M x : ℕ) → Linking w v u P B N M → Descending w u P N x → Descending w′ u P N x
-  descending u P B N M x l s =
-      record {
-        rise = s .rise;
-        small = s .small;
-        at = route-at (s .at);
-        path = m .walks (s .path) (c .stays v N o (record { hung = l .neighbour .hung; holds = l .holdsN }) (l .inside));
-      }
-
-  pub parentOf : (u : Bool) (P B N M x : ℕ) → Linking w v u P B N M → Parent w N x → Parent w′ N x
-  parentOf u P B N M x l s =
-      let had : Holds w v N = record { hung = l .neighbour .hung; holds = l .holdsN } in
-      record {
-        at = route-at (s .at);
-        above = c .parent v x (s .side) N o had (l .neighbour .base) (route-of (s .at)) (s .above) (s .child);
-        side = s .side;
-        child = c .child v x (s .side) N o had (route-of (s .at)) (s .child);
-      }
 
   pub holdingOf : (x : ℕ) → K x → Holding w v x → Holding w′ v x
   holdingOf x κ s = record { base = base-at (s .base); holds = holding κ (s .base .hung) (s .holds) }

@@ -1,18 +1,18 @@
 -- What the walking rows come to: from the condition before a step of a walk to the one after.
-use mathlib.Core.Bool.{Bool, true, false, cond, not, true≢false}
+use mathlib.Core.Bool.{Bool, true, false, not, true≢false}
 use mathlib.Core.Path.{_≡_, refl, sym, ap, _∙_}
-use Prim.Native.Nat.{ℕ, _+_, _≤_, _<_}
+use Prim.Native.Nat.{ℕ, _≤_, _<_}
 use native.Mathlib.Omega.{arith}
 use lib.Dec.{ltb, eqb}
 use borrow.Author.Tests.{eq-eqb, ne-eqb, lt-ltb, eqb-true, eqb-false}
 use Rattle.rules.specs.declared.state.Thread.{Thread}
-use Rattle.graph.specs.Cases.{Amount, none, some, amount, Same, same, apart, compared, Test, holds, fails, test}
-use Rattle.graph.specs.Walk.{Cell, kid, Direction, by, along, next, Walk, here, step, walk-from, walk-on, first, walk-stops}
-use Rattle.graph.specs.Tree.{count, label-in, kid-in, walk-in}
+use Rattle.graph.specs.Cases.{Amount, none, some, amount, holds}
+use Rattle.graph.specs.Walk.{Cell, kid, Direction, by, along, next, Walk, walk-from, walk-on, first, walk-stops}
+use Rattle.graph.specs.Tree.{count, label-in, walk-in}
 use Rattle.graph.specs.Graph.{summit, hung, Route, Good}
 use Rattle.graph.specs.Track.{Track, on, dead, past}
-use Rattle.order.specs.World.{World, graph, cell, cell-summit, crown, valid, hold, keys, inTree, outOfTree, Late, Sound}
-use Rattle.order.specs.Stages.{BaseAt, RouteAt, Searching, Meets, Arrived, Locked, Owning, Turning, Joining, Seeking, Reached, Taken, Pairing, Ready, Dying, Towards, Over, Under, Linking, Closing, Descending, Parent}
+use Rattle.order.specs.World.{World, graph, cell, cell-summit, valid, hold, keys, inTree, Sound}
+use Rattle.order.specs.Stages.{BaseAt, RouteAt, Searching, Arrived, Turning, Joining, Seeking, Reached, Dying, Towards, Under, Linking, Closing, Descending, Parent}
 
 module _ {w : World} {thread : ℕ → Thread} {made : ℕ} (sound : Sound w thread made) where
   good : Good (graph w)

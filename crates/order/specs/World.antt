@@ -1,9 +1,8 @@
 -- A state as a graph: its places through a function, the root as the left child of the summit, and beside it what no code holds: the tree,
 -- and whose each node is.
-use mathlib.Core.Bool.{Bool, true, false, cond, not}
-use mathlib.Core.Path.{_≡_, refl, sym, ap, _∙_}
+use mathlib.Core.Bool.{Bool, true, false, cond}
+use mathlib.Core.Path.{_≡_, refl}
 use Prim.Native.Nat.{ℕ, _+_, _*_, _≤_, _<_}
-use native.Mathlib.Omega.{arith}
 use lib.Dec.{eqb}
 use lib.ListN.{getD}
 use borrow.Author.Tests.{ne-eqb}
@@ -14,7 +13,7 @@ use Rattle.rules.specs.declared.state.Body.the-variants.{Base, Route}
 use Rattle.rules.specs.declared.state.Place.{Place}
 use Rattle.rules.specs.declared.state.Thread.{Thread}
 use Rattle.rules.specs.declared.state.State.{State}
-use Rattle.graph.specs.Walk.{Cell, kid, Direction, by, next, Walk}
+use Rattle.graph.specs.Walk.{Cell, kid}
 use Rattle.graph.specs.Count.{routes}
 use Rattle.graph.specs.Tree.{Tree}
 use Rattle.graph.specs.Graph.{summit, hung, unmade, Graph, In, Out, Good, Belongs}
@@ -72,6 +71,10 @@ inTree w x = In (graph w) x
 
 abbrev pub outOfTree : World → ℕ → Type 0
 outOfTree w x = Out (graph w) x
+
+-- the cells of a state
+abbrev pub cellsOf : State → ℕ → Cell
+cellsOf s = cellAt (s .root) (λ x. getD (s .places) x zeroPlace)
 
 -- the world of a state
 abbrev pub worldOf : State → Tree → (ℕ → ℕ) → World

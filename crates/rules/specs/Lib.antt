@@ -7,3 +7,4 @@ pub mod Step
 pub mod List
 pub mod Follow
 pub mod Answers
+pub mod Examples

@@ -1,7 +1,9 @@
 -- "Schedule and key sheet": the forms of the schedule's lines.
 use mathlib.Core.Bool.{Bool, true, false, cond, not, _&&_}
-use mathlib.Core.List.{List, [], _∷_}
+use mathlib.Core.List.{List, []}
+use mathlib.Core.Path.{_≡_, refl}
 use Prim.Native.Nat.{ℕ}
+use native.Mathlib.Omega.{arith}
 use lib.Dec.{eqb}
 use lib.ListN.{length, getD, drop}
 use Rattle.rules.specs.Range.{settingsInRange}
@@ -85,3 +87,17 @@ lineForm l =
     cond (isBegin (fields l))
     (Line.the-variants.Begin (value (field (fields l) 1)) (operationOf (field (fields l) 2)) (value (field (fields l) 3)))
     (cond (isSteps (fields l)) (Line.the-variants.Steps (value (field (fields l) 1)) (value (field (fields l) 2))) Line.the-variants.Slip)
+
+-- the settings of an accepted line are in range
+pub first-in-range : (l : List ℕ) (c : Settings) → firstForm l ≡ First.the-variants.Settings c → settingsInRange c ≡ true
+unfolding firstForm ranged
+first-in-range l c e = go (settingsForm (fields l)) e
+  where
+    go : (f : First.First) → ranged f ≡ First.the-variants.Settings c → settingsInRange c ≡ true
+    go First.the-variants.Slip e = let z : _≡_ {A = ℕ} 0 1 = cc in absurd (omega arith)
+    go (First.the-variants.Settings d) e = at (settingsInRange d) refl e
+      where
+        at : (t : Bool) → settingsInRange d ≡ t
+            → cond t (First.the-variants.Settings d) First.the-variants.Slip ≡ First.the-variants.Settings c → settingsInRange c ≡ true
+        at true h k = let s : d ≡ c = cc in rw s at h
+        at false h k = let z : _≡_ {A = ℕ} 0 1 = cc in absurd (omega arith)

@@ -1,3 +1,4 @@
 pub mod Form
 pub mod Sheet
+pub mod Called
 pub mod Examples

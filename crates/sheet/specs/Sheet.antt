@@ -64,7 +64,7 @@ playForm s Line.the-variants.Slip = refused s 1
 -- "other line 9, 7, 1, then 3, 4, 10, 5, 6, 11, 8 as they apply"
 unfoldable pub lineOf : ℕ → State → List ℕ → Played
 lineOf room s l =
-    elim (narrow room) [ true ↦ silent s 9 | false ↦ elim (not (inRange s)) [ true ↦ silent s 7 | false ↦ playForm s (lineForm l) ] ]
+    cond (narrow room) (silent s 9) (cond (not (inRange s)) (silent s 7) (playForm s (lineForm l)))
 
 -- `E committed made keys`
 unfoldable pub endText : State → List ℕ → List ℕ
@@ -76,7 +76,7 @@ endForm s (ListReply.the-variants.Refused n) = refused s n
 
 -- "key list .. as a sheet line 9, 7, 8"
 unfoldable pub endOf : ℕ → State → Played
-endOf room s = elim (narrow room) [ true ↦ silent s 9 | false ↦ elim (not (inRange s)) [ true ↦ silent s 7 | false ↦ endForm s (keyListOf s) ] ]
+endOf room s = cond (narrow room) (silent s 9) (cond (not (inRange s)) (silent s 7) (endForm s (keyListOf s)))
 
 -- what a settings line does: a fresh state and the sheet line `R`, or `X 2`
 unfoldable pub firstPlayed : First.First → Played
@@ -85,7 +85,7 @@ firstPlayed First.the-variants.Slip = refused (fresh zeroSettings) 2
 
 -- "settings line 9, 2"
 unfoldable pub firstOf : ℕ → List ℕ → Played
-firstOf room l = elim (narrow room) [ true ↦ silent (fresh zeroSettings) 9 | false ↦ firstPlayed (firstForm l) ]
+firstOf room l = cond (narrow room) (silent (fresh zeroSettings) 9) (firstPlayed (firstForm l))
 
 -- ---- whole files
 
@@ -106,4 +106,4 @@ playAll (l ∷ ls) = playFirst (firstForm l) ls
 
 -- "A file too long gives `X 12` alone, whatever its first line"
 unfoldable pub sheetOf : List ℕ → List ℕ
-sheetOf file = elim (ltb 60000 (length file)) [ true ↦ refusal 12 | false ↦ playAll (lines file) ]
+sheetOf file = cond (ltb 60000 (length file)) (refusal 12) (playAll (lines file))

@@ -52,10 +52,10 @@ fn low_of(part: &[u8]) -> Number
     if let Number::Value { value } = below_of(part) {
         return Number::Value { value };
     }
-    let Number::Value { value } = text::read::number_of(part) else {
+    let Number::Value { value: zero } = text::read::number_of(part) else {
         return Number::Slip;
     };
-    if value == 0 {
+    if zero == 0 {
         return Number::Value { value: 0 };
     }
     Number::Slip

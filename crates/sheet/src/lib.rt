@@ -1,2 +1,3 @@
 // Schedule lines in, sheet lines out.
+pub mod calls;
 pub mod form;

@@ -107,7 +107,7 @@ pub fn put_keys_line(room: &mut [u8], letter: u8, a: u32, b: u32, keys: u64) -> 
     room[0] = letter;
     let one = put_behind(&mut *room, 1, 9, 7, a);
     let two = put_behind(&mut *room, one, 9, 7, b);
-    let end = put_keys(&mut *room, two, keys);
-    room[end] = 10;
-    end + 1
+    let three = put_keys(&mut *room, two, keys);
+    room[three] = 10;
+    three + 1
 }

@@ -1,5 +1,5 @@
 -- `sheet::form::line_form` meets its contract.
-use mathlib.Core.Path.{sym, _∙_}
+use mathlib.Core.Path.{_∙_}
 use borrow.Author.Tests.{ne-eqb}
 use Rattle.sheet.specs.Form.{lineForm, isBegin, isSteps}
 use borrow.Author.Needs.{needs}

@@ -23,8 +23,8 @@ enum-told c = search needs
 number-of-requires : tie.Need-number-of-requires
 number-of-requires c κs = search needs
 
-enum-known-value-2 : tie.Need-enum-known-value-2
-enum-known-value-2 c = search needs
+enum-known-zero : tie.Need-enum-known-zero
+enum-known-zero c = search needs
 
 enum-told-2 : tie.Need-enum-told-2
 enum-told-2 c = search needs
@@ -37,14 +37,14 @@ returns-3 : tie.Need-returns-3
 unfolding isMin lowOf
 returns-3 c =
     let b = slip-if _ _ (sym (c .before .before .before .before .before .before .before .below-of .ensures) ∙ c .before .before .before .before .before .enum-told .given .1) in
-    let v = value-if _ _ _ (sym (c .before .before .before .before .number-of .ensures) ∙ c .before .before .value2 .given .1) in
+    let v = value-if _ _ _ (sym (c .before .before .before .before .number-of .ensures) ∙ c .before .before .zero .given .1) in
     value-made _ _ _ (simp (b, v .0, v .1, eq-eqb _ _ (c .if1 .taken))) (simp b)
 
 returns-4 : tie.Need-returns-4
 unfolding isMin lowOf
 returns-4 c =
     let b = slip-if _ _ (sym (c .before .before .before .before .before .before .before .below-of .ensures) ∙ c .before .before .before .before .before .enum-told .given .1) in
-    let v = value-if _ _ _ (sym (c .before .before .before .before .number-of .ensures) ∙ c .before .before .value2 .given .1) in
+    let v = value-if _ _ _ (sym (c .before .before .before .before .number-of .ensures) ∙ c .before .before .zero .given .1) in
     slip-made _ _ (simp (b, v .0, v .1, ne-eqb _ _ (c .if1 .left)))
 
 pub low-of-spec : {M : Type 1} → statement M
@@ -56,7 +56,7 @@ low-of-spec =
     returns
     enum-told
     number-of-requires
-    enum-known-value-2
+    enum-known-zero
     enum-told-2
     returns-2
     returns-3

@@ -1,4 +1,4 @@
--- `text::read::digits` meets its contract.
+-- `text::read::digits` meets its contract. The invariant: all is digits where what is left is.
 use mathlib.Core.Path.{_≡_, sym, _∙_}
 use Prim.Native.Nat.{_-_, _≤_}
 use native.Mathlib.Numerals.{add-one}

@@ -1,8 +1,8 @@
--- `text::read::field` meets its contract.
+-- `text::read::field` meets its contract. The invariant: the field asked for is field `left` of what is left.
 use mathlib.Core.Path.{_≡_, sym, _∙_}
-use Prim.Native.Nat.{_-_, _≤_}
+use Prim.Native.Nat.{_≤_}
 use mathlib.Core.List.{[]}
-use lib.ListN.{length, getD, drop}
+use lib.ListN.{length, getD}
 use lib.Seq.{length-take-le, drop-length, take-nil}
 use Rattle.text.specs.Text.{fields, tab}
 use Rattle.text.specs.Reading.{until-le, field-first, field-later, field-none, rest-part}

@@ -1,4 +1,4 @@
--- `text::read::field_count` meets its contract.
+-- `text::read::field_count` meets its contract. The invariant: the fields counted and those that are left make all, where one is counted twice.
 use mathlib.Core.Path.{_≡_}
 use Prim.Native.Nat.{suc, _+_, _-_, _≤_}
 use native.Mathlib.Numerals.{add-one}

@@ -1,4 +1,4 @@
--- `text::read::until` meets its contract.
+-- `text::read::until` meets its contract. The invariant: what is to be found is `i` and what is to be found behind it.
 use mathlib.Core.Path.{_≡_}
 use Prim.Native.Nat.{_+_, _-_, _≤_}
 use native.Mathlib.Numerals.{add-one}

@@ -1,4 +1,4 @@
--- `text::read::value` meets its contract.
+-- `text::read::value` meets its contract. The invariant: the digits left, behind the value so far, give the whole value, and `i` digits make less than 10 ^ i.
 use mathlib.Core.Path.{_≡_, refl, sym, _∙_}
 use Prim.Native.Nat.{suc, _-_, _^_, _≤_, _<_}
 use native.Mathlib.Nat.{pow-suc, pow-le-pow-right}

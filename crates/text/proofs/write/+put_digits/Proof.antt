@@ -1,4 +1,4 @@
--- `text::write::+put_digits` meets its contract.
+-- `text::write::put_digits` meets its contract.
 use Prim.Native.Nat.{ℕ, _<_}
 use native.Mathlib.Omega.{arith}
 use borrow.Author.Needs.{needs}

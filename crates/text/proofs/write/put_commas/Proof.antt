@@ -1,4 +1,4 @@
--- `text::write::put_commas` meets its contract.
+-- `text::write::put_commas` meets its contract. The invariant: whoever writes the keys left at `end` has written all of them at `at`.
 use mathlib.Core.Path.{_≡_, refl, _∙_}
 use Prim.Native.Nat.{ℕ, _+_, _-_, _*_, _≤_}
 use native.Mathlib.Numerals.{add-one}

@@ -1,5 +1,4 @@
 -- `text::write::put_keys_line` meets its contract.
-use mathlib.Core.Path.{_∙_}
 use mathlib.Core.List.{append-assoc, append-nil}
 use borrow.Author.Tests.{lt-ltb, le-ltb}
 use lib.ListN.{length-set}

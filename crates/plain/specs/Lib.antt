@@ -1,0 +1,13 @@
+pub mod Held
+pub mod Late
+pub mod Steps
+pub mod StepsJoin
+pub mod Once
+pub mod Commit
+pub mod Plain
+pub mod Listed
+pub mod Runs
+pub mod Registers
+pub mod Log
+pub mod Ended
+pub mod Demand

@@ -1,0 +1,147 @@
+-- The keys of the plain set are those of the key list and of the retired bases between splice and link.
+use mathlib.Core.Bool.{Bool, true, false, _&&_, _||_, true≢false}
+use mathlib.Core.Path.{_≡_, refl, sym, ap, _∙_}
+use Prim.Native.Nat.{ℕ, zero, suc, _≤_, _<_}
+use native.Mathlib.Omega.{arith}
+use lib.ListN.{List·getD-eq-default}
+use Rattle.keys.specs.Keys.{has}
+use Rattle.keys.specs.Laws.{has-none}
+use Rattle.rules.specs.State.{zeroPlace, placeAt, threadAt}
+use Rattle.rules.specs.Places.{keysOf}
+use Rattle.rules.specs.List.{reached}
+use Rattle.rules.specs.declared.state.Place.{Place}
+use Rattle.rules.specs.declared.state.State.{State}
+use Rattle.states.specs.Tests.{both}
+use Rattle.graph.specs.Cases.{Same, same, apart, compared, is-same, is-apart, is-some}
+use Rattle.graph.specs.Walk.{Cell}
+use Rattle.graph.specs.Tree.{Tree, fork, count, Shape, leaf, branch, Stands, top, inL, inR, stands}
+use Rattle.graph.specs.Graph.{summit}
+use Rattle.order.specs.World.{World, cell, cellsOf, keys, worldOf}
+use Rattle.order.specs.Bridge.{place-at}
+use Rattle.order.specs.Walks.{summit-at}
+use Rattle.order.specs.KeyList.{keysIn, root-tree, reached-keys}
+use Rattle.plain.specs.Held.{late, keysAt, Held, inBase, inRetired, linking-of}
+use Rattle.plain.specs.Plain.{Plain}
+
+-- j is a key of the base register of one of the first n threads that is in phases 20 to 23
+unfoldable pub retiredIn : State → ℕ → ℕ → Bool
+retiredIn s zero j = false
+retiredIn s (suc n) j = (late (threadAt s n .phase) && has (keysOf (placeAt s (threadAt s n .base))) j) || retiredIn s n j
+
+-- of one of the eight threads
+abbrev pub retired : State → ℕ → Bool
+retired s j = retiredIn s 8 j
+
+-- a base of the tree that has the key
+record Found (g : ℕ → Cell) (ks : ℕ → ℕ) (t : Tree) (j : ℕ) : Type 0 where
+  base : ℕ
+  inside : 1 ≤ count base t
+  kind : g base .route ≡ false
+  key : has (ks base) j ≡ true
+
+-- a passed test of two
+data Either (a b : Bool) : Type 0 where
+  one : a ≡ true → Either a b
+  two : b ≡ true → Either a b
+
+either : (a b : Bool) → (a || b) ≡ true → Either a b
+either true b e = one refl
+either false b e = two e
+
+left-or : {a : Bool} (b : Bool) → a ≡ true → (a || b) ≡ true
+left-or b x = rw x
+
+right-or : (a : Bool) {b : Bool} → b ≡ true → (a || b) ≡ true
+right-or true x = refl
+right-or false x = x
+
+find : (g : ℕ → Cell) (ks : ℕ → ℕ) (j : ℕ) {t : Tree} → Shape g t → keysIn ks t j ≡ true → Found g ks t j
+unfolding keysIn
+find g ks j (leaf {n} f) h = record { base = n; inside = omega (arith, is-same {x = n} refl); kind = f; key = h }
+find g ks j (branch {n} {l} {r} f a b) h = go (either (keysIn ks l j) (keysIn ks r j) h) (find g ks j a) (find g ks j b)
+  where
+    go : Either (keysIn ks l j) (keysIn ks r j) → (keysIn ks l j ≡ true → Found g ks l j) → (keysIn ks r j ≡ true → Found g ks r j)
+        → Found g ks (fork n l r) j
+    go (one e) u v = let k = u e in record { base = k .base; inside = omega (arith, k .inside); kind = k .kind; key = k .key }
+    go (two e) u v = let k = v e in record { base = k .base; inside = omega (arith, k .inside); kind = k .kind; key = k .key }
+
+-- and every base's keys are found
+found : (g : ℕ → Cell) (ks : ℕ → ℕ) (j b : ℕ) {t : Tree} → Shape g t → 1 ≤ count b t → g b .route ≡ false → has (ks b) j ≡ true → keysIn ks t j ≡ true
+unfolding keysIn
+found g ks j b (leaf {n} f) i e h = ap (λ (x : ℕ). has (ks x) j) (sym (is-some i)) ∙ h
+found g ks j b (branch {n} {l} {r} f a c) i e h = go (stands i) (λ k. found g ks j b a k e h) (λ k. found g ks j b c k e h)
+  where
+    go : Stands b n l r → (1 ≤ count b l → keysIn ks l j ≡ true) → (1 ≤ count b r → keysIn ks r j ≡ true) → (keysIn ks l j || keysIn ks r j) ≡ true
+    go (top q) u v = absurd (true≢false (sym (f .route) ∙ ap (λ (x : ℕ). g x .route) (sym q) ∙ e))
+    go (inL k) u v = left-or (keysIn ks r j) (u k)
+    go (inR k) u v = right-or (keysIn ks l j) (v k)
+
+module _ {s : State} {p : ℕ} (x : Plain s p) (j : ℕ) where
+  abbrev w : World
+  w = worldOf s (x .inv .nodes .tree) (x .inv .nodes .own)
+
+  -- the retired bases' keys are held, and the other way round
+  retired-held : (n : ℕ) → n ≤ 8 → retiredIn s n j ≡ true → Held (x .inv .nodes) j
+  unfolding retiredIn
+  retired-held zero l e = absurd (true≢false (sym e))
+  retired-held (suc n) l e =
+      go (either (late (threadAt s n .phase) && has (keysOf (placeAt s (threadAt s n .base))) j) (retiredIn s n j) e) (retired-held n (omega arith))
+    where
+      go : Either (late (threadAt s n .phase) && has (keysOf (placeAt s (threadAt s n .base))) j) (retiredIn s n j)
+          → (retiredIn s n j ≡ true → Held (x .inv .nodes) j) → Held (x .inv .nodes) j
+      go (two f) u = u f
+      go (one f) u =
+          let q = both (late (threadAt s n .phase)) (has (keysOf (placeAt s (threadAt s n .base))) j) f in
+          let m : n ≤ 7 = omega arith in
+          inRetired n m (q .0)
+          (ap (λ (y : Place). has (keysOf y) j) (sym (place-at s (threadAt s n .base) (linking-of (x .inv .nodes) n m (q .0) .base .small))) ∙ q .1)
+
+  held-retired : (v n : ℕ) → v < n → late (threadAt s v .phase) ≡ true → has (keysOf (placeAt s (threadAt s v .base))) j ≡ true → retiredIn s n j ≡ true
+  unfolding retiredIn
+  held-retired v zero l e h = absurd (omega arith)
+  held-retired v (suc n) l e h = go (compared v n) (λ k. held-retired v n k e h)
+    where
+      mine : v ≡ n → (late (threadAt s n .phase) && has (keysOf (placeAt s (threadAt s n .base))) j) ≡ true
+      mine q = rw (← q) (rw (e, h))
+
+      go : Same v n → (v < n → retiredIn s n j ≡ true)
+          → ((late (threadAt s n .phase) && has (keysOf (placeAt s (threadAt s n .base))) j) || retiredIn s n j) ≡ true
+      go (same q) u = left-or (retiredIn s n j) (mine q)
+      go (apart d) u = right-or (late (threadAt s n .phase) && has (keysOf (placeAt s (threadAt s n .base))) j) (u (omega arith))
+
+  -- the listed keys are held, and the other way round
+  listed-held : has (reached s .keys) j ≡ true → Held (x .inv .nodes) j
+  listed-held h =
+      let k = find (cell w) (keys w) j (root-tree (x .inv) .shape) (sym (reached-keys (x .inv) j) ∙ h) in
+      inBase (k .base) (omega (arith, root-tree (x .inv) .inside (k .base), k .inside)) (k .kind) (k .key)
+
+  held-listed : (b : ℕ) → 1 ≤ count b (x .inv .nodes .tree) → cellsOf s b .route ≡ false → has (keysAt s b) j ≡ true → has (reached s .keys) j ≡ true
+  held-listed b a f h = reached-keys (x .inv) j ∙ found (cell w) (keys w) j b (root-tree (x .inv) .shape) inside f h
+    where
+      not-summit : b ≡ summit → ⊥
+      not-summit q = true≢false (sym (summit-at (x .inv .nodes .safe .sound) .route) ∙ ap (λ (y : ℕ). cellsOf s y .route) (sym q) ∙ f)
+
+      not-last : b ≡ 129 → ⊥
+      not-last q =
+          true≢false (sym h ∙ ap (λ (y : ℕ). has (keysAt s y) j) q
+          ∙ ap (λ (y : Place). has (keysOf y) j) (List·getD-eq-default (s .places) zeroPlace {n = 129} (omega (arith, x .inv .places))) ∙ has-none j)
+
+      inside : 1 ≤ count b (root-tree (x .inv) .rest)
+      inside = omega (arith, root-tree (x .inv) .inside b, is-apart not-summit, is-apart not-last)
+
+  -- the plain set has the keys of the key list and those of the retired bases of threads in phases 20 to 23
+  pub plain-keys : has p j ≡ (has (reached s .keys) j || retired s j)
+  plain-keys = go (has p j) (has (reached s .keys) j) (retired s j) refl refl refl
+    where
+      one-of : Held (x .inv .nodes) j → (has (reached s .keys) j || retired s j) ≡ true
+      one-of (inBase b a f h) = left-or (retired s j) (held-listed b a f h)
+      one-of (inRetired v a f h) =
+          right-or (has (reached s .keys) j)
+          (held-retired v 8 (omega arith) f
+          (ap (λ (y : Place). has (keysOf y) j) (place-at s (threadAt s v .base) (linking-of (x .inv .nodes) v a f .base .small)) ∙ h))
+
+      go : (a b c : Bool) → has p j ≡ a → has (reached s .keys) j ≡ b → retired s j ≡ c → a ≡ (b || c)
+      go true b c u v z = sym (ap (λ (y : Bool). y || c) (sym v) ∙ ap (λ (y : Bool). has (reached s .keys) j || y) (sym z) ∙ one-of (x .back j u))
+      go false true c u v z = absurd (true≢false (sym (x .on j (listed-held v)) ∙ u))
+      go false false true u v z = absurd (true≢false (sym (x .on j (retired-held 8 (omega arith) z)) ∙ u))
+      go false false false u v z = refl

@@ -1,0 +1,188 @@
+-- The commits of a run in their order: each answer is that of the plain set, and the numbers count from 1.
+use mathlib.Core.Bool.{Bool, true, false, cond, not, _&&_}
+use mathlib.Core.List.{List, [], _∷_}
+use mathlib.Core.Path.{_≡_, refl, sym, ap, ap₂, _∙_, subst, subst₂}
+use Prim.Native.Nat.{ℕ, _+_, _≤_}
+use lib.Dec.{ltb, leb, eqb}
+use borrow.Author.Tests.{ltb-false, eqb-true, eqb-false, eq-eqb}
+use Rattle.keys.specs.Keys.{has}
+use Rattle.rules.specs.State.{fresh, placeAt, threadAt}
+use Rattle.rules.specs.Places.{keysOf, keysAfter, answerOf}
+use Rattle.rules.specs.Range.{inRange}
+use Rattle.rules.specs.Rows.{stuck}
+use Rattle.rules.specs.Step.{begun, beginOf, viewOf, after, ends, replyOf, stepOf}
+use Rattle.rules.specs.Answers.{stepNumber}
+use Rattle.rules.specs.declared.state.Settings.{Settings}
+use Rattle.rules.specs.declared.state.Place.{Place}
+use Rattle.rules.specs.declared.state.Thread.{Thread}
+use Rattle.rules.specs.declared.state.State.{State}
+use Rattle.rules.specs.declared.answer.Begin.{Begin}
+use Rattle.rules.specs.declared.answer.Step.{Step}
+use Rattle.rules.specs.declared.answer.StepReply as StepReply
+use Rattle.states.specs.Tests.{both, pick-by, pick}
+use Rattle.graph.specs.Cases.{Same, same, apart, compared}
+use Rattle.order.specs.AtPhase.{at-phase}
+use Rattle.order.specs.Bridge.{place-at}
+use Rattle.order.specs.Passes.{Call, begins, steps, afterCall}
+use Rattle.plain.specs.Commit.{agrees}
+use Rattle.plain.specs.Plain.{Plain, commitsNow, plainThen, fresh-plain}
+use Rattle.plain.specs.Runs.{accepted, plainCall, plainAfter, call-plain}
+use Rattle.plain.specs.Registers.{commit-done, step-same, end-same}
+
+-- a commit: the operation, its key, the answer and the commit number
+pub record Entry : Type 0 where
+  pub operation : ℕ
+  pub key : ℕ
+  pub answer : ℕ
+  pub number : ℕ
+
+-- what a thread's registers say of its commit
+abbrev pub entryOf : Thread → Entry
+entryOf t = record { operation = t .operation; key = t .key; answer = t .answer; number = t .commit }
+
+-- the commits of some calls, in their order
+unfoldable pub logOf : State → List Call → List Entry
+logOf s [] = []
+logOf s (begins t o k ∷ cs) = logOf (afterCall s (begins t o k)) cs
+logOf s (steps t ∷ cs) =
+    cond (accepted s t && commitsNow s t) (entryOf (threadAt (after s t) t) ∷ logOf (afterCall s (steps t)) cs)
+    (logOf (afterCall s (steps t)) cs)
+
+-- the plain set p after some commits
+unfoldable pub playLog : ℕ → List Entry → ℕ
+playLog p [] = p
+playLog p (e ∷ l) = playLog (keysAfter (e .operation) p (e .key)) l
+
+-- from the plain set p and n commits on, each answer is that of the plain set and the numbers count on
+abbrev pub Right : ℕ → ℕ → List Entry → Type 0
+Right p n [] = Unit {0}
+Right p n (e ∷ l) =
+    (e .answer ≡ answerOf (e .operation) (has p (e .key))) × (e .number ≡ n + 1) × Right (keysAfter (e .operation) p (e .key)) (n + 1) l
+
+-- an accepted step, or a refused one that leaves the state
+pub data Outcome (s : State) (t : ℕ) : Type 0 where
+  takes : t ≤ 7 → (threadAt s t .phase ≡ 0 → ⊥) → accepted s t ≡ true → stepOf s t .state ≡ after s t → Outcome s t
+  leaves : accepted s t ≡ false → stepOf s t .state ≡ s → Outcome s t
+
+pub outcome : (s : State) (t : ℕ) → Outcome s t
+unfolding stepOf replyOf
+outcome s t =
+    let Q : Step → Type 0 = λ b. (stepOf s t ≡ b) → Outcome s t in
+    pick-by Q (not (inRange s)) (λ e z. out 7 refl z) (λ r.
+    pick-by Q (ltb 7 t) (λ e z. out 3 refl z) (λ a.
+    pick-by Q (eqb (threadAt s t .phase) 0) (λ e z. out 6 refl z) (λ b.
+    pick-by Q (stuck (viewOf s t)) (λ e z. out 8 refl z) (λ c z. into (ltb-false 7 t a) (eqb-false (threadAt s t .phase) 0 b) z)))) refl
+  where
+    out : (n : ℕ) → eqb n 0 ≡ false → stepOf s t ≡ (record { reply = StepReply.the-variants.Refused n; state = s }) → Outcome s t
+    out n e z = leaves (ap (λ (b : Step). eqb (stepNumber (b .reply)) 0) z ∙ e) (ap (λ (b : Step). b .state) z)
+
+    into : t ≤ 7 → (threadAt s t .phase ≡ 0 → ⊥) → stepOf s t ≡ (record { reply = replyOf s t; state = after s t }) → Outcome s t
+    into l n z =
+        takes l n
+        (ap (λ (b : Step). eqb (stepNumber (b .reply)) 0) z
+        ∙ pick (λ (b : StepReply.StepReply). eqb (stepNumber b) 0 ≡ true) (ends (threadAt s t)) refl refl) (ap (λ (b : Step). b .state) z)
+
+begin-committed : (s : State) (t o k : ℕ) → beginOf s t o k .state .committed ≡ s .committed
+unfolding beginOf begun
+begin-committed s t o k =
+    let Q : Begin → Type 0 = λ b. b .state .committed ≡ s .committed in
+    pick Q (not (inRange s)) refl
+    (pick Q (ltb 2 o) refl (pick Q (ltb 7 t) refl (pick Q (ltb 63 k) refl (pick Q (not (eqb (threadAt s t .phase) 0)) refl (pick Q (leb 1000000 (s .begun)) refl refl)))))
+
+-- the same for equal sets and counts
+move : (l : List Entry) {p q n m : ℕ} → p ≡ q → n ≡ m → Right p n l → Right q m l
+move l e f x = subst₂ (λ (a b : ℕ). Right a b l) e f x
+
+module _ {s : State} {p : ℕ} (x : Plain s p) (t : ℕ) (L : List Entry) where
+  abbrev Goal : Bool → Type 0
+  Goal b = Right p (s .committed) (cond b (entryOf (threadAt (after s t) t) ∷ L) L)
+
+  -- the count where the step does not commit
+  count-stays : t ≤ 7 → commitsNow s t ≡ false → after s t .committed ≡ s .committed
+  count-stays l c = go (compared (threadAt s t .phase) 25)
+    where
+      go : Same (threadAt s t .phase) 25 → after s t .committed ≡ s .committed
+      go (same e) = end-same s (x .inv .threads) l e
+      go (apart n) =
+          step-same s (x .inv .threads) l
+          (λ e. sym (ap (λ (b : Bool). b && placeAt s (threadAt s t .base) .valid) (eq-eqb (threadAt s t .phase) 5 e)) ∙ c) n
+          .committed
+
+  -- the commit
+  commits-right : t ≤ 7 → commitsNow s t ≡ true → Right (plainThen s t p) (after s t .committed) L → Goal true
+  unfolding plainThen
+  commits-right l c y =
+      let q = both (eqb (threadAt s t .phase) 5) (placeAt s (threadAt s t .base) .valid) c in
+      let e = eqb-true (threadAt s t .phase) 5 (q .0) in
+      let d = commit-done s (x .inv .threads) l e (q .1) in
+      let th = threadAt s t in
+      let locked = at-phase 5 e (x .inv .nodes .safe .each t l) in
+      let a = agrees (x .inv .nodes) (x .inv .threads) (x .inv .places) l e (q .1) p (x .on) (x .back) in
+      let b : has p (th .key) ≡ has (keysOf (placeAt s (th .base))) (th .key) =
+      a ∙ ap (λ (z : Place). has (keysOf z) (th .key)) (sym (place-at s (th .base) (locked .arrived .base .small))) in (
+        d .answer ∙ ap₂ (λ (o : ℕ) (h : Bool). answerOf o h) (sym (d .operation)) (sym b ∙ ap (has p) (sym (d .key))),
+        d .commit,
+        move L
+            (ap (λ (z : Bool). cond z (keysAfter (th .operation) p (th .key)) p) c
+            ∙ ap₂ (λ (o k : ℕ). keysAfter o p k) (sym (d .operation)) (sym (d .key))) (d .committed) y,
+      )
+
+  not-then : commitsNow s t ≡ false → plainThen s t p ≡ p
+  unfolding plainThen
+  not-then c = ap (λ (b : Bool). cond b (keysAfter (threadAt s t .operation) p (threadAt s t .key)) p) c
+
+  -- the plain set by the log
+  step-log : playLog (plainCall s (steps t) p) L ≡ playLog p (cond (accepted s t && commitsNow s t) (entryOf (threadAt (after s t) t) ∷ L) L)
+  unfolding plainCall plainThen playLog
+  step-log = go (outcome s t)
+    where
+      taken : t ≤ 7 → (b : Bool) → commitsNow s t ≡ b
+          → playLog (cond b (keysAfter (threadAt s t .operation) p (threadAt s t .key)) p) L ≡ playLog p (cond b (entryOf (threadAt (after s t) t) ∷ L) L)
+      taken l false c = refl
+      taken l true c =
+          let q = both (eqb (threadAt s t .phase) 5) (placeAt s (threadAt s t .base) .valid) c in
+          let d = commit-done s (x .inv .threads) l (eqb-true (threadAt s t .phase) 5 (q .0)) (q .1) in
+          ap₂ (λ (o k : ℕ). playLog (keysAfter o p k) L) (sym (d .operation)) (sym (d .key))
+
+      go : Outcome s t
+          → playLog (cond (accepted s t) (cond (commitsNow s t) (keysAfter (threadAt s t .operation) p (threadAt s t .key)) p) p) L
+          ≡ playLog p (cond (accepted s t && commitsNow s t) (entryOf (threadAt (after s t) t) ∷ L) L)
+      go (leaves a e) = rw a
+      go (takes l n a e) = rw a (taken l (commitsNow s t) refl)
+
+  step-right : Right (plainCall s (steps t) p) (afterCall s (steps t) .committed) L → Goal (accepted s t && commitsNow s t)
+  unfolding plainCall afterCall
+  step-right y = go (outcome s t)
+    where
+      taken : t ≤ 7 → accepted s t ≡ true → stepOf s t .state ≡ after s t → (b : Bool) → commitsNow s t ≡ b → Goal b
+      taken l a e true c =
+          commits-right l c (move L (ap (λ (b : Bool). cond b (plainThen s t p) p) a) (ap (λ (z : State). z .committed) e) y)
+      taken l a e false c =
+          move L (ap (λ (b : Bool). cond b (plainThen s t p) p) a ∙ not-then c) (ap (λ (z : State). z .committed) e ∙ count-stays l c) y
+
+      go : Outcome s t → Goal (accepted s t && commitsNow s t)
+      go (leaves a e) =
+          subst (λ (b : Bool). Goal (b && commitsNow s t)) (sym a)
+          (move L (ap (λ (b : Bool). cond b (plainThen s t p) p) a) (ap (λ (z : State). z .committed) e) y)
+      go (takes l n a e) = subst (λ (b : Bool). Goal (b && commitsNow s t)) (sym a) (taken l a e (commitsNow s t) refl)
+
+right : {s : State} {p : ℕ} → Plain s p → (cs : List Call) → Right p (s .committed) (logOf s cs)
+unfolding logOf plainCall afterCall
+right x [] = tt
+right {s} x (begins t o k ∷ cs) = move (logOf (beginOf s t o k .state) cs) refl (begin-committed s t o k) (right (call-plain x (begins t o k)) cs)
+right {s} x (steps t ∷ cs) = step-right x t (logOf (stepOf s t .state) cs) (right (call-plain x (steps t)) cs)
+
+-- from fresh, the commits of any calls answer as the plain set taken in commit order, starting empty, and are numbered from 1
+pub run-right : (c : Settings) (cs : List Call) → Right 0 0 (logOf (fresh c) cs)
+unfolding fresh
+run-right c cs = right (fresh-plain c) cs
+
+by-log : {s : State} {p : ℕ} → Plain s p → (cs : List Call) → plainAfter s cs p ≡ playLog p (logOf s cs)
+unfolding plainAfter logOf afterCall plainCall playLog
+by-log x [] = refl
+by-log x (begins t o k ∷ cs) = by-log (call-plain x (begins t o k)) cs
+by-log {s} x (steps t ∷ cs) = by-log (call-plain x (steps t)) cs ∙ step-log x t (logOf (stepOf s t .state) cs)
+
+-- the plain set after any calls from fresh is that of their commits
+pub run-log : (c : Settings) (cs : List Call) → plainAfter (fresh c) cs 0 ≡ playLog 0 (logOf (fresh c) cs)
+run-log c cs = by-log (fresh-plain c) cs

@@ -1,0 +1,68 @@
+-- Runs from fresh: the commits in their order answer as a plain set does, and the keys are the plain set's, each once.
+use mathlib.Core.Bool.{Bool, true, cond, not}
+use mathlib.Core.List.{List, [], _∷_}
+use mathlib.Core.Path.{_≡_, refl}
+use Prim.Native.Nat.{ℕ}
+use lib.Dec.{ltb, leb, eqb}
+use borrow.Author.Tests.{ltb-false, eqb-true, not-false}
+use Rattle.rules.specs.State.{fresh, threadAt}
+use Rattle.rules.specs.Range.{inRange}
+use Rattle.rules.specs.Rows.{stuck}
+use Rattle.rules.specs.Step.{begun, beginOf, viewOf, ends, replyOf, stepOf}
+use Rattle.rules.specs.Answers.{stepNumber}
+use Rattle.rules.specs.declared.state.Settings.{Settings}
+use Rattle.rules.specs.declared.state.State.{State}
+use Rattle.rules.specs.declared.answer.Begin.{Begin}
+use Rattle.rules.specs.declared.answer.Step.{Step}
+use Rattle.rules.specs.declared.answer.StepReply as StepReply
+use Rattle.states.specs.Tests.{pick-by, pick}
+use Rattle.order.specs.Passes.{Call, begins, steps, afterCall}
+use Rattle.plain.specs.Plain.{Plain, plainThen, fresh-plain, begun-plain, after-plain}
+
+-- the step of thread t is accepted
+abbrev pub accepted : State → ℕ → Bool
+accepted s t = eqb (stepNumber (stepOf s t .reply)) 0
+
+-- the plain set after a call: only an accepted step that commits changes it
+unfoldable pub plainCall : State → Call → ℕ → ℕ
+plainCall s (begins t o k) p = p
+plainCall s (steps t) p = cond (accepted s t) (plainThen s t p) p
+
+-- the state and the plain set after some calls
+unfoldable pub afterCalls : State → List Call → State
+afterCalls s [] = s
+afterCalls s (c ∷ cs) = afterCalls (afterCall s c) cs
+
+unfoldable pub plainAfter : State → List Call → ℕ → ℕ
+plainAfter s [] p = p
+plainAfter s (c ∷ cs) p = plainAfter (afterCall s c) cs (plainCall s c p)
+
+-- a call holds what the plain set then has
+pub call-plain : {s : State} {p : ℕ} → Plain s p → (c : Call) → Plain (afterCall s c) (plainCall s c p)
+unfolding afterCall plainCall beginOf stepOf replyOf
+call-plain {s} {p} x (begins t o k) =
+    let Q : Begin → Type 0 = λ b. Plain (b .state) p in
+    pick-by Q (not (inRange s)) (λ e. x) λ r.
+    pick-by Q (ltb 2 o) (λ e. x) λ a.
+    pick-by Q (ltb 7 t) (λ e. x) λ b.
+    pick-by Q (ltb 63 k) (λ e. x) λ c.
+    pick-by Q (not (eqb (threadAt s t .phase) 0)) (λ e. x) λ d.
+    pick-by Q (leb 1000000 (s .begun)) (λ e. x) λ g.
+    begun-plain x t o k (ltb-false 7 t b) (ltb-false 63 k c) (eqb-true (threadAt s t .phase) 0 (not-false _ d))
+call-plain {s} {p} x (steps t) =
+    let Q : Step → Type 0 = λ b. Plain (b .state) (cond (eqb (stepNumber (b .reply)) 0) (plainThen s t p) p) in
+    pick-by Q (not (inRange s)) (λ e. x) λ r.
+    pick-by Q (ltb 7 t) (λ e. x) λ a.
+    pick-by Q (eqb (threadAt s t .phase) 0) (λ e. x) λ b.
+    pick-by Q (stuck (viewOf s t)) (λ e. x) λ c.
+    rw (pick (λ (z : StepReply.StepReply). eqb (stepNumber z) 0 ≡ true) (ends (threadAt s t)) refl refl) (after-plain x (ltb-false 7 t a))
+
+-- so do all calls
+pub calls-plain : {s : State} {p : ℕ} → Plain s p → (cs : List Call) → Plain (afterCalls s cs) (plainAfter s cs p)
+unfolding afterCalls plainAfter
+calls-plain x [] = x
+calls-plain x (c ∷ cs) = calls-plain (call-plain x c) cs
+
+-- after any calls from a fresh state
+pub run-plain : (c : Settings) (cs : List Call) → Plain (afterCalls (fresh c) cs) (plainAfter (fresh c) cs 0)
+run-plain c cs = calls-plain (fresh-plain c) cs

@@ -1,0 +1,1 @@
+// The plain set: theorems only, no function.

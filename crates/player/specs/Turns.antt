@@ -1,0 +1,77 @@
+-- One call of the player: what it writes, and where the play stands then.
+use mathlib.Core.Bool.{Bool, cond}
+use mathlib.Core.List.{List, []}
+use mathlib.Core.Path.{_≡_}
+use Prim.Native.Nat.{ℕ, _+_}
+use lib.Dec.{ltb, leb, eqb}
+use lib.ListN.{length, take, drop}
+use lib.Seq.{sets}
+use Rattle.rules.specs.State.{fresh}
+use Rattle.rules.specs.Step.{zeroSettings}
+use Rattle.rules.specs.declared.state.State.{State}
+use Rattle.text.specs.Text.{newline, until}
+use Rattle.sheet.specs.Sheet.{Played, narrow, refusal, firstOf, lineOf, endOf}
+use Rattle.sheet.specs.Called.{Called}
+use Rattle.sheet.specs.declared.calls.Answer.{Answer}
+use Rattle.player.specs.declared.Player.{Player}
+use Rattle.player.specs.declared.Turn.{Turn}
+
+-- what a call gives: the refusal number or 0, the sheet line, and where the play stands then
+pub record Out : Type 0 where
+  pub number : ℕ
+  pub sheet : List ℕ
+  pub player : Player
+
+abbrev pub standing : ℕ → ℕ → State → Player
+standing at stage s = record { at = at; stage = stage; state = s }
+
+-- nothing is played yet
+unfoldable pub opened : Player
+opened = standing 0 0 (fresh zeroSettings)
+
+-- what a line call did, and where the play stands then
+abbrev pub out : Played → ℕ → ℕ → Out
+out q at stage = record { number = q .number; sheet = q .sheet; player = standing at stage (q .state) }
+
+-- a line of some bytes: those before the first newline
+abbrev pub front : List ℕ → List ℕ
+front l = take (until newline l) l
+
+-- the first line, without its newline
+abbrev pub firstPlay : ℕ → List ℕ → Played
+firstPlay room file = firstOf room (front file)
+
+-- "A file too long gives `X 12` alone"; the settings line, after which the lines follow or, if it is refused, nothing
+unfoldable pub firstTurn : ℕ → List ℕ → Player → Out
+firstTurn room file p =
+    cond (ltb 60000 (length file)) (record { number = 12; sheet = refusal 12; player = standing (p .at) 2 (p .state) })
+    (cond (eqb (firstPlay room file .number) 0) (out (firstPlay room file) (until newline file + 1) 1) (out (firstPlay room file) (p .at) 2))
+
+-- "one line for each schedule line, then `E`"
+unfoldable pub lineTurn : ℕ → List ℕ → Player → Out
+lineTurn room file p =
+    cond (leb (length file) (p .at)) (out (endOf room (p .state)) (p .at) 2)
+    (out (lineOf room (p .state) (front (drop (p .at) file))) (p .at + until newline (drop (p .at) file) + 1) 1)
+
+-- a call that writes nothing
+abbrev pub silently : ℕ → Player → Out
+silently n p = record { number = n; sheet = []; player = p }
+
+-- one call; 9 for a room that is too small
+unfoldable pub turnOf : ℕ → List ℕ → Player → Out
+turnOf room file p =
+    cond (narrow room) (silently 9 p)
+    (cond (eqb (p .stage) 0) (firstTurn room file p) (cond (eqb (p .stage) 1) (lineTurn room file p) (silently 0 p)))
+
+abbrev pub turn : ℕ → ℕ → Player → Turn
+turn number size p = record { number = number; length = size; player = p }
+
+-- the bytes l of the room became l′, and r was answered: o's number, sheet line and player, and no other byte changed
+pub record Turned (o : Out) (l : List ℕ) (r : Turn) (l′ : List ℕ) : Type 0 where
+  pub reply : r ≡ turn (o .number) (length (o .sheet)) (o .player)
+  pub bytes : l′ ≡ sets l 0 (o .sheet)
+
+-- what a line call did to the room is what the call of the player did
+pub turned-called : {q : Played} {l l′ : List ℕ} {a : Answer} → Called q l a l′ → (at stage : ℕ)
+    → Turned (out q at stage) l (turn (a .number) (a .length) (standing at stage (a .state))) l′
+turned-called {q} {l} {l′} {a} c at stage = record { reply = rw (c .reply); bytes = c .bytes }

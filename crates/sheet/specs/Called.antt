@@ -1,0 +1,33 @@
+-- What the contract of a line call says: its answer and every byte of the room.
+use mathlib.Core.List.{List}
+use mathlib.Core.Path.{_≡_, refl}
+use Prim.Native.Nat.{ℕ, _≤_}
+use native.Mathlib.Omega.{arith}
+use borrow.Author.Tests.{le-ltb}
+use lib.ListN.{length}
+use lib.Seq.{sets}
+use Rattle.rules.specs.declared.state.State.{State}
+use Rattle.text.specs.Text.{Wrote, fitted}
+use Rattle.sheet.specs.Sheet.{Played, silent}
+use Rattle.sheet.specs.declared.calls.Answer.{Answer}
+
+abbrev pub answer : ℕ → ℕ → State → Answer
+answer number size s = record { number = number; length = size; state = s }
+
+-- the bytes l of the room became l′, and r was answered: p's number, state and sheet line, and no other byte changed
+pub record Called (p : Played) (l : List ℕ) (r : Answer) (l′ : List ℕ) : Type 0 where
+  pub reply : r ≡ answer (p .number) (length (p .sheet)) (p .state)
+  pub bytes : l′ ≡ sets l 0 (p .sheet)
+
+-- a line that fits was written
+pub called-line : {l l′ : List ℕ} {r : ℕ} (n : ℕ) (s : State) (most : ℕ) (line : List ℕ) → Wrote l 0 (fitted most (length l) line) r l′
+    → most ≤ length l → Called (record { number = n; state = s; sheet = line }) l (answer n r s) l′
+unfolding fitted
+called-line {l} {l′} {r} n s most line w h =
+    let v : Wrote l 0 line r l′ = rw (le-ltb (length l) most h) at w in
+    let e : r ≡ length line = omega (arith, v .next) in
+    record { reply = rw e; bytes = v .bytes }
+
+-- nothing was written
+pub called-silent : {l : List ℕ} {r : Answer} (n : ℕ) (s : State) → r ≡ answer n 0 s → Called (silent s n) l r l
+called-silent n s e = record { reply = e; bytes = refl }
