@@ -11,3 +11,4 @@ pub mod Registers
 pub mod Log
 pub mod Ended
 pub mod Demand
+pub mod Instance
