@@ -1,10 +1,10 @@
--- `keysheet::flush` meets its contract.
+-- `stream::flush` meets its contract.
 use mathlib.Core.Path.{sym}
 use native.Mathlib.Omega.{arith}
 use lib.Seq.{length-take-le}
 use borrow.Author.Needs.{needs}
-use Rattle.keysheet.proofs.flush.Statement.{statement}
-use Rattle.keysheet.proofs.flush.Tie as tie
+use Rattle.stream.proofs.flush.Statement.{statement}
+use Rattle.stream.proofs.flush.Tie as tie
 
 slice-aggregate-write-all : tie.Need-slice-aggregate-write-all
 slice-aggregate-write-all c = sym (length-take-le _ _ (omega arith))

@@ -1,10 +1,10 @@
--- `keysheet::append` meets its contract: the buffer keeps its length.
+-- `stream::append` meets its contract: the buffer keeps its length.
 use mathlib.Core.Path.{_≡_}
 use Prim.Native.Nat.{_≤_, _-_}
 use lib.ListN.{length}
 use borrow.Author.Needs.{needs}
-use Rattle.keysheet.proofs.append.Statement.{statement}
-use Rattle.keysheet.proofs.append.Tie as tie
+use Rattle.stream.proofs.append.Statement.{statement}
+use Rattle.stream.proofs.append.Tie as tie
 
 abbrev Inv-loop : tie.InvT-loop
 Inv-loop gathered₀ used line n end at₀ i₀ gathered at i = (length gathered ≡ length gathered₀) × ((i ≤ end) × (end ≤ length line))

@@ -1,10 +1,10 @@
--- `keysheet::play` meets its contract: the buffers keep their lengths.
+-- `stream::play` meets its contract: the buffers keep their lengths.
 use mathlib.Core.Path.{_≡_}
 use Prim.Native.Nat.{_≤_, _-_}
 use lib.ListN.{length}
 use borrow.Author.Needs.{needs}
-use Rattle.keysheet.proofs.play.Statement.{statement}
-use Rattle.keysheet.proofs.play.Tie as tie
+use Rattle.stream.proofs.play.Statement.{statement}
+use Rattle.stream.proofs.play.Tie as tie
 
 abbrev Inv-loop : tie.InvT-loop
 Inv-loop file gathered₀ used₀ room₀ p₀ left₀ gathered used room p left = (4096 ≡ length gathered) × (256 ≡ length room)
