@@ -51,7 +51,7 @@ pub(crate) fn row_10(v: View) -> Plan
 pub(crate) fn row_11(v: View) -> Plan
     ensures { λ r. ⌜ r ≡ row11 v ⌝ }
 {
-    let b = v.base;
+    let own = v.base;
     let w = v.walk;
     let t = v.thread;
     let u = register::set_neighbour(t.walk, t);
@@ -67,7 +67,7 @@ pub(crate) fn row_11(v: View) -> Plan
     plan::stores_1(
         v,
         register::at_phase(25, u),
-        plan::at(t.base, place::zero(b)),
+        plan::at(t.base, place::zero(own)),
     )
 }
 

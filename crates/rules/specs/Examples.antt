@@ -37,9 +37,11 @@ found s (f ∷ fs) = f .asks s ∷ found (f .next s) fs
 abbrev pub begins : ℕ → ℕ → ℕ → State → State
 begins t o k s = beginOf s t o k .state
 
+-- thread t takes n steps
 abbrev pub takes : ℕ → ℕ → State → State
 takes t n s = runOf s t n .state
 
+-- thread t begins an operation and runs to its end
 abbrev pub does : ℕ → ℕ → ℕ → State → State
 does t o k s = takes t 1000 (begins t o k s)
 
@@ -47,6 +49,7 @@ does t o k s = takes t 1000 (begins t o k s)
 abbrev pub rests : State → State
 rests s = s
 
+-- the phase of a thread
 abbrev pub phase : ℕ → State → ℕ
 phase t s = threadAt s t .phase
 
@@ -54,6 +57,7 @@ phase t s = threadAt s t .phase
 abbrev pub statistics : ℕ → State → ℕ
 statistics n s = placeAt s n .lock .statistics
 
+-- the keys of a base
 abbrev pub holds : ℕ → State → List ℕ
 holds n s = listOf (keysOf (placeAt s n))
 
@@ -75,6 +79,7 @@ decided t s = stepValues (stepOf s t .reply) ++ (statistics 0 (stepOf s t .state
 unfoldable pub filled : State
 filled = does 0 0 2 (does 0 0 9 (does 0 0 5 (fresh (record { succ = 1; fail = 3; low = 1; max = 2 }))))
 
+-- example B, from its settings on
 unfoldable pub exampleB : Example
 exampleB =
     record {
@@ -136,6 +141,7 @@ exampleI statistics ks said = record { start = deciding statistics ks; facts = r
 
 -- ---- the statement
 
+-- the facts that document 01 gives, as computed and as given
 unfoldable pub examples : List Example
 examples =
     exampleB
@@ -154,6 +160,7 @@ examples =
 abbrev pub given : Example → List (List ℕ)
 given e = found (e .start) (e .facts)
 
+-- what document 01 says
 abbrev pub wanted : Example → List (List ℕ)
 wanted e = map (λ (f : Fact). f .said) (e .facts)
 

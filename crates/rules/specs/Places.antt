@@ -10,13 +10,16 @@ use Rattle.rules.specs.declared.state.Body.{Body}
 use Rattle.rules.specs.declared.state.Body.the-variants.{Base, Route}
 use Rattle.rules.specs.declared.state.Place.{Place}
 
+-- "A route has key, left, right": a body is that of a route
 abbrev pub isRouteBody : Body → Bool
 isRouteBody (Base ks) = false
 isRouteBody (Route k l r) = true
 
+-- the node is a route
 abbrev pub isRoute : Place → Bool
 isRoute p = isRouteBody (p .body)
 
+-- the node is a base
 abbrev pub isBase : Place → Bool
 isBase p = not (isRouteBody (p .body))
 
@@ -25,6 +28,7 @@ abbrev pub keysOfBody : Body → ℕ
 keysOfBody (Base ks) = ks
 keysOfBody (Route k l r) = 0
 
+-- "A base has a set of keys"
 abbrev pub keysOf : Place → ℕ
 keysOf p = keysOfBody (p .body)
 
@@ -33,9 +37,11 @@ abbrev pub routeKeyOfBody : Body → ℕ
 routeKeyOfBody (Base ks) = 0
 routeKeyOfBody (Route k l r) = k
 
+-- the key of a route
 abbrev pub routeKey : Place → ℕ
 routeKey p = routeKeyOfBody (p .body)
 
+-- the child of a body on a side: true is right
 abbrev pub childOnBody : Bool → Body → ℕ
 childOnBody w (Base ks) = none
 childOnBody w (Route k l r) = cond w r l
@@ -48,6 +54,7 @@ childOn w p = childOnBody w (p .body)
 abbrev pub childBy : ℕ → Place → ℕ
 childBy k p = childOn (not (ltb k (routeKey p))) p
 
+-- the body with `new` in the place of child x
 abbrev pub swapBody : ℕ → ℕ → Body → Body
 swapBody x new (Base ks) = Base ks
 swapBody x new (Route k l r) = cond (eqb l x) (Route k new r) (Route k l new)
@@ -56,9 +63,11 @@ swapBody x new (Route k l r) = cond (eqb l x) (Route k new r) (Route k l new)
 abbrev pub takesPlace : ℕ → ℕ → Place → Place
 takesPlace x new y = record { lock = y .lock; valid = y .valid; body = swapBody x new (y .body) }
 
+-- "B free": its holder is none
 abbrev pub isFree : Place → Bool
 isFree p = eqb (p .lock .holder) nobody
 
+-- the place with another lock record: "and no other record"
 abbrev pub withLock : Lock → Place → Place
 withLock l p = record { lock = l; valid = p .valid; body = p .body }
 
@@ -82,15 +91,19 @@ released l = record { holder = nobody; statistics = l .statistics }
 abbrev pub zeroed : Lock → Lock
 zeroed l = record { holder = l .holder; statistics = zeroStatistics }
 
+-- the place with its lock released
 abbrev pub release : Place → Place
 release p = withLock (released (p .lock)) p
 
+-- the place with its statistics 0
 abbrev pub zero : Place → Place
 zero p = withLock (zeroed (p .lock)) p
 
+-- "B invalid": the valid flag goes
 abbrev pub invalid : Place → Place
 invalid p = record { lock = p .lock; valid = false; body = p .body }
 
+-- the base with other keys
 abbrev pub withKeys : ℕ → Place → Place
 withKeys ks p = record { lock = p .lock; valid = p .valid; body = Base ks }
 

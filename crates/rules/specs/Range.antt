@@ -29,6 +29,7 @@ placeInRange made p = leb (p .lock .holder) nobody && leb (p .lock .statistics) 
 unfoldable pub registerInRange : ℕ → ℕ → Bool
 registerInRange made r = eqb r none || ltb r made
 
+-- each node register of a thread
 unfoldable pub registersInRange : ℕ → Thread → Bool
 registersInRange made t =
     registerInRange made (t .prev) && registerInRange made (t .base) && registerInRange made (t .walk)
@@ -47,6 +48,7 @@ unfoldable pub placesInRange : ℕ → List Place → Bool
 placesInRange made [] = true
 placesInRange made (p ∷ ps) = placeInRange made p && placesInRange made ps
 
+-- each thread
 unfoldable pub threadsInRange : ℕ → List Thread → Bool
 threadsInRange made [] = true
 threadsInRange made (t ∷ ts) = threadInRange made t && threadsInRange made ts
@@ -56,6 +58,7 @@ unfoldable pub countsInRange : State → Bool
 countsInRange s =
     leb 1 (s .made) && leb (s .made) 128 && leb (s .begun) 1000000 && leb (s .committed) (s .begun) && ltb (s .root) (s .made)
 
+-- "A state is in range"
 unfoldable pub inRange : State → Bool
 inRange s =
     settingsInRange (s .settings) && countsInRange s && placesInRange (s .made) (s .places) && threadsInRange (s .made) (s .threads)

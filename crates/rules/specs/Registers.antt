@@ -3,6 +3,7 @@ use mathlib.Core.Bool.{Bool}
 use Prim.Native.Nat.{ℕ}
 use Rattle.rules.specs.declared.state.Thread.{Thread}
 
+-- the thread in phase x
 abbrev pub atPhase : ℕ → Thread → Thread
 atPhase x t =
     record {
@@ -20,6 +21,7 @@ atPhase x t =
       side = t .side;
     }
 
+-- prev = x
 abbrev pub setPrev : ℕ → Thread → Thread
 setPrev x t =
     record {
@@ -37,6 +39,7 @@ setPrev x t =
       side = t .side;
     }
 
+-- base = x
 abbrev pub setBase : ℕ → Thread → Thread
 setBase x t =
     record {
@@ -54,6 +57,7 @@ setBase x t =
       side = t .side;
     }
 
+-- walk = x
 abbrev pub setWalk : ℕ → Thread → Thread
 setWalk x t =
     record {
@@ -71,6 +75,7 @@ setWalk x t =
       side = t .side;
     }
 
+-- N = x
 abbrev pub setNeighbour : ℕ → Thread → Thread
 setNeighbour x t =
     record {
@@ -88,6 +93,7 @@ setNeighbour x t =
       side = t .side;
     }
 
+-- G = x
 abbrev pub setGrandparent : ℕ → Thread → Thread
 setGrandparent x t =
     record {
@@ -105,6 +111,7 @@ setGrandparent x t =
       side = t .side;
     }
 
+-- the made node is x
 abbrev pub setMade : ℕ → Thread → Thread
 setMade x t =
     record {
@@ -122,6 +129,7 @@ setMade x t =
       side = t .side;
     }
 
+-- "kept as side"
 abbrev pub setSide : Bool → Thread → Thread
 setSide x t =
     record {

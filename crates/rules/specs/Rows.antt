@@ -18,9 +18,11 @@ use Rattle.rules.specs.declared.row.Plan.{Plan}
 
 -- ---- what a row may change
 
+-- a place to be stored at node n
 abbrev pub at : ℕ → Place → Store
 at n p = record { at = n; place = p }
 
+-- nothing is stored
 abbrev pub noStore : Store
 noStore = at none zeroPlace
 
@@ -29,9 +31,11 @@ abbrev pub stores3 : View → Thread → Store → Store → Store → Plan
 stores3 v t a b c =
     record { thread = t; root = v .root; made = v .made; committed = v .committed; first = a; second = b; third = c }
 
+-- two places
 abbrev pub stores2 : View → Thread → Store → Store → Plan
 stores2 v t a b = stores3 v t a b noStore
 
+-- one place
 abbrev pub stores1 : View → Thread → Store → Plan
 stores1 v t a = stores3 v t a noStore noStore
 
@@ -308,30 +312,39 @@ planOf v = getD rows (v .thread .phase) row0 v
 abbrev pub route : ℕ → Place → Bool
 route n p = ltb n none && isRoute p
 
+-- register n, whose place is p, names a base
 abbrev pub base : ℕ → Place → Bool
 base n p = ltb n none && isBase p
 
+-- register n, whose place is p, is none or names a route
 abbrev pub maybeRoute : ℕ → Place → Bool
 maybeRoute n p = eqb n none || route n p
 
+-- P is a route
 abbrev pub routeP : View → Bool
 routeP v = route (v .thread .prev) (v .prev)
 
+-- G is a route
 abbrev pub routeG : View → Bool
 routeG v = route (v .thread .grandparent) (v .grandparent)
 
+-- walk is a route
 abbrev pub routeWalk : View → Bool
 routeWalk v = route (v .thread .walk) (v .walk)
 
+-- B is a base
 abbrev pub baseB : View → Bool
 baseB v = base (v .thread .base) (v .base)
 
+-- N is a base
 abbrev pub baseN : View → Bool
 baseN v = base (v .thread .neighbour) (v .neighbour)
 
+-- P is none or a route
 abbrev pub noneOrP : View → Bool
 noneOrP v = maybeRoute (v .thread .prev) (v .prev)
 
+-- G is none or a route
 abbrev pub noneOrG : View → Bool
 noneOrG v = maybeRoute (v .thread .grandparent) (v .grandparent)
 
@@ -370,6 +383,7 @@ needs =
     ∷ baseB
     ∷ []
 
+-- what no row needs
 abbrev pub idle : View → Bool
 idle v = true
 

@@ -74,6 +74,7 @@ fresh c =
 abbrev pub zeroPlace : Place
 zeroPlace = record { lock = record { holder = 0; statistics = 0 }; valid = false; body = Base 0 }
 
+-- the same for a thread
 abbrev pub zeroThread : Thread
 zeroThread =
     record {

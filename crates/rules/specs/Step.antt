@@ -39,6 +39,7 @@ freshOf c =
 
 -- ---- begin
 
+-- the state with a count of begun operations and one thread anew
 abbrev pub withThread : State → ℕ → ℕ → Thread → State
 withThread s begun t th =
     record {
@@ -55,6 +56,7 @@ withThread s begun t th =
 unfoldable pub begun : State → ℕ → ℕ → ℕ → State
 begun s t o k = withThread s (s .begun + 1) t (setOperation o k (threadAt s t))
 
+-- "State unchanged in all"
 abbrev pub refusedBegin : State → ℕ → Begin
 refusedBegin s n = record { reply = BeginReply.the-variants.Refused n; state = s }
 
@@ -98,6 +100,7 @@ nextOf v =
     (cond (eqb p 2) (childBy (v .thread .key) (v .walk))
     (cond (eqb p 9) (childOn (farSide v) (v .prev)) (cond (eqb p 10) (nearChild v) (cond (eqb p 22) (nearChild v) none))))
 
+-- the view with the place of the node that it walks to
 abbrev pub reaching : Place → View → View
 reaching p v =
     record {
@@ -146,6 +149,7 @@ after s t = apply s t (planOf (viewOf s t))
 abbrev pub ends : Thread → Bool
 ends t = eqb (t .phase) 25
 
+-- "State unchanged in all"
 abbrev pub refusedStep : State → ℕ → Step
 refusedStep s n = record { reply = StepReply.the-variants.Refused n; state = s }
 
@@ -154,6 +158,7 @@ abbrev pub replyFrom : Thread → Plan → StepReply.StepReply
 replyFrom th p =
     cond (ends th) (StepReply.the-variants.Ends (th .answer) (th .commit)) (StepReply.the-variants.Goes (p .thread .phase))
 
+-- what thread t's next step answers
 unfoldable pub replyOf : State → ℕ → StepReply.StepReply
 replyOf s t = replyFrom (threadAt s t) (planOf (viewOf s t))
 
@@ -167,6 +172,7 @@ stepOf s t =
 
 -- ---- counted steps
 
+-- "State unchanged in all"
 abbrev pub refusedRun : State → ℕ → Run
 refusedRun s n = record { reply = RunReply.the-variants.Refused n; state = s }
 

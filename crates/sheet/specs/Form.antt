@@ -43,6 +43,7 @@ isFirst fs =
     eqb (length fs) 5 && isLetter 82 (field fs 0) && isNumber (field fs 1) && isNumber (field fs 2) && isMin (field fs 3)
     && isNumber (field fs 4)
 
+-- the settings of such a line
 unfoldable pub settingsOf : List (List ℕ) → Settings
 settingsOf fs =
     record { succ = value (field fs 1); fail = value (field fs 2); low = lowOf (field fs 3); max = value (field fs 4) }

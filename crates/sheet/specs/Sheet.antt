@@ -30,6 +30,7 @@ pub record Played : Type 0 where
 unfoldable pub refusal : ℕ → List ℕ
 refusal n = sheetLine 88 (n ∷ [])
 
+-- a refusal that writes nothing
 abbrev pub silent : State → ℕ → Played
 silent s n = record { number = n; state = s; sheet = [] }
 
@@ -37,6 +38,7 @@ silent s n = record { number = n; state = s; sheet = [] }
 abbrev pub refused : State → ℕ → Played
 refused s n = record { number = n; state = s; sheet = refusal n }
 
+-- an accepted line
 abbrev pub wrote : State → List ℕ → Played
 wrote s l = record { number = 0; state = s; sheet = l }
 
@@ -70,6 +72,7 @@ lineOf room s l =
 unfoldable pub endText : State → List ℕ → List ℕ
 endText s ks = keysLine 69 (s .committed ∷ s .made ∷ []) ks
 
+-- the end line by what the key list answers
 unfoldable pub endForm : State → ListReply.ListReply → Played
 endForm s (ListReply.the-variants.Keys ks) = wrote s (endText s (listOf ks))
 endForm s (ListReply.the-variants.Refused n) = refused s n

@@ -9,12 +9,15 @@ use lib.Seq.{sets}
 use Rattle.keys.specs.Keys.{has}
 use Rattle.text.specs.declared.read.Number as Number
 
+-- "Fields are parted by one tab"
 abbrev pub tab : ℕ
 tab = 9
 
+-- "Lines end with one newline byte"
 abbrev pub newline : ℕ
 newline = 10
 
+-- "min may have a minus"
 abbrev pub minus : ℕ
 minus = 45
 
@@ -44,6 +47,7 @@ lines (b ∷ bs) = cond (eqb b newline) ([] ∷ lines bs) (onto b (lines bs))
 unfoldable pub isLetter : ℕ → List ℕ → Bool
 isLetter b f = eqb (length f) 1 && eqb (getD f 0 0) b
 
+-- all bytes are digits
 unfoldable pub digits : List ℕ → Bool
 digits [] = true
 digits (b ∷ bs) = leb 48 b && leb b 57 && digits bs
@@ -57,6 +61,7 @@ unfoldable pub valueFrom : ℕ → List ℕ → ℕ
 valueFrom n [] = n
 valueFrom n (b ∷ bs) = valueFrom (n * 10 + (b - 48)) bs
 
+-- the value of a number's digits
 unfoldable pub value : List ℕ → ℕ
 value f = valueFrom 0 f
 
