@@ -115,8 +115,10 @@ module _ {s : State} {p : ℕ} (x : Plain s p) (j : ℕ) where
       let k = find (cell w) (keys w) j (root-tree (x .inv) .shape) (sym (reached-keys (x .inv) j) ∙ h) in
       inBase (k .base) (omega (arith, root-tree (x .inv) .inside (k .base), k .inside)) (k .kind) (k .key)
 
-  held-listed : (b : ℕ) → 1 ≤ count b (x .inv .nodes .tree) → cellsOf s b .route ≡ false → has (keysAt s b) j ≡ true → has (reached s .keys) j ≡ true
-  held-listed b a f h = reached-keys (x .inv) j ∙ found (cell w) (keys w) j b (root-tree (x .inv) .shape) inside f h
+  -- a base of the tree with a key stands under the root pointer
+  pub under-root : (b : ℕ) → 1 ≤ count b (x .inv .nodes .tree) → cellsOf s b .route ≡ false → has (keysAt s b) j ≡ true
+      → 1 ≤ count b (root-tree (x .inv) .rest)
+  under-root b a f h = omega (arith, root-tree (x .inv) .inside b, is-apart not-summit, is-apart not-last)
     where
       not-summit : b ≡ summit → ⊥
       not-summit q = true≢false (sym (summit-at (x .inv .nodes .safe .sound) .route) ∙ ap (λ (y : ℕ). cellsOf s y .route) (sym q) ∙ f)
@@ -126,8 +128,8 @@ module _ {s : State} {p : ℕ} (x : Plain s p) (j : ℕ) where
           true≢false (sym h ∙ ap (λ (y : ℕ). has (keysAt s y) j) q
           ∙ ap (λ (y : Place). has (keysOf y) j) (List·getD-eq-default (s .places) zeroPlace {n = 129} (omega (arith, x .inv .places))) ∙ has-none j)
 
-      inside : 1 ≤ count b (root-tree (x .inv) .rest)
-      inside = omega (arith, root-tree (x .inv) .inside b, is-apart not-summit, is-apart not-last)
+  held-listed : (b : ℕ) → 1 ≤ count b (x .inv .nodes .tree) → cellsOf s b .route ≡ false → has (keysAt s b) j ≡ true → has (reached s .keys) j ≡ true
+  held-listed b a f h = reached-keys (x .inv) j ∙ found (cell w) (keys w) j b (root-tree (x .inv) .shape) (under-root b a f h) f h
 
   -- the plain set has the keys of the key list and those of the retired bases of threads in phases 20 to 23
   pub plain-keys : has p j ≡ (has (reached s .keys) j || retired s j)

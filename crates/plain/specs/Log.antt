@@ -29,23 +29,24 @@ use Rattle.plain.specs.Plain.{Plain, commitsNow, plainThen, fresh-plain}
 use Rattle.plain.specs.Runs.{accepted, plainCall, plainAfter, call-plain}
 use Rattle.plain.specs.Registers.{commit-done, step-same, end-same}
 
--- a commit: the operation, its key, the answer and the commit number
+-- a commit: the thread, the operation, its key, the answer and the commit number
 pub record Entry : Type 0 where
+  pub thread : ℕ
   pub operation : ℕ
   pub key : ℕ
   pub answer : ℕ
   pub number : ℕ
 
--- what a thread's registers say of its commit
-abbrev pub entryOf : Thread → Entry
-entryOf t = record { operation = t .operation; key = t .key; answer = t .answer; number = t .commit }
+-- what the registers of thread n say of its commit
+abbrev pub entryOf : ℕ → Thread → Entry
+entryOf n t = record { thread = n; operation = t .operation; key = t .key; answer = t .answer; number = t .commit }
 
 -- the commits of some calls, in their order
 unfoldable pub logOf : State → List Call → List Entry
 logOf s [] = []
 logOf s (begins t o k ∷ cs) = logOf (afterCall s (begins t o k)) cs
 logOf s (steps t ∷ cs) =
-    cond (accepted s t && commitsNow s t) (entryOf (threadAt (after s t) t) ∷ logOf (afterCall s (steps t)) cs)
+    cond (accepted s t && commitsNow s t) (entryOf t (threadAt (after s t) t) ∷ logOf (afterCall s (steps t)) cs)
     (logOf (afterCall s (steps t)) cs)
 
 -- the plain set p after some commits
@@ -95,7 +96,7 @@ move l e f x = subst₂ (λ (a b : ℕ). Right a b l) e f x
 
 module _ {s : State} {p : ℕ} (x : Plain s p) (t : ℕ) (L : List Entry) where
   abbrev Goal : Bool → Type 0
-  Goal b = Right p (s .committed) (cond b (entryOf (threadAt (after s t) t) ∷ L) L)
+  Goal b = Right p (s .committed) (cond b (entryOf t (threadAt (after s t) t) ∷ L) L)
 
   -- the count where the step does not commit
   count-stays : t ≤ 7 → commitsNow s t ≡ false → after s t .committed ≡ s .committed
@@ -132,12 +133,12 @@ module _ {s : State} {p : ℕ} (x : Plain s p) (t : ℕ) (L : List Entry) where
   not-then c = ap (λ (b : Bool). cond b (keysAfter (threadAt s t .operation) p (threadAt s t .key)) p) c
 
   -- the plain set by the log
-  step-log : playLog (plainCall s (steps t) p) L ≡ playLog p (cond (accepted s t && commitsNow s t) (entryOf (threadAt (after s t) t) ∷ L) L)
+  step-log : playLog (plainCall s (steps t) p) L ≡ playLog p (cond (accepted s t && commitsNow s t) (entryOf t (threadAt (after s t) t) ∷ L) L)
   unfolding plainCall plainThen playLog
   step-log = go (outcome s t)
     where
       taken : t ≤ 7 → (b : Bool) → commitsNow s t ≡ b
-          → playLog (cond b (keysAfter (threadAt s t .operation) p (threadAt s t .key)) p) L ≡ playLog p (cond b (entryOf (threadAt (after s t) t) ∷ L) L)
+          → playLog (cond b (keysAfter (threadAt s t .operation) p (threadAt s t .key)) p) L ≡ playLog p (cond b (entryOf t (threadAt (after s t) t) ∷ L) L)
       taken l false c = refl
       taken l true c =
           let q = both (eqb (threadAt s t .phase) 5) (placeAt s (threadAt s t .base) .valid) c in
@@ -146,7 +147,7 @@ module _ {s : State} {p : ℕ} (x : Plain s p) (t : ℕ) (L : List Entry) where
 
       go : Outcome s t
           → playLog (cond (accepted s t) (cond (commitsNow s t) (keysAfter (threadAt s t .operation) p (threadAt s t .key)) p) p) L
-          ≡ playLog p (cond (accepted s t && commitsNow s t) (entryOf (threadAt (after s t) t) ∷ L) L)
+          ≡ playLog p (cond (accepted s t && commitsNow s t) (entryOf t (threadAt (after s t) t) ∷ L) L)
       go (leaves a e) = rw a
       go (takes l n a e) = rw a (taken l (commitsNow s t) refl)
 
