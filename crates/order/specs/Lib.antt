@@ -34,6 +34,5 @@ pub mod Search
 pub mod KeyList
 pub mod Reached
 pub mod Refusal
-pub mod Passes
 pub mod WalkRows
 pub mod Bounded

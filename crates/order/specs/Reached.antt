@@ -4,19 +4,18 @@ use mathlib.Core.Path.{_≡_, sym, _∙_, subst}
 use Prim.Native.Nat.{ℕ, _≤_, _<_}
 use native.Mathlib.Omega.{arith}
 use lib.ListN.{getD}
-use Rattle.rules.specs.State.{placeAt}
-use Rattle.rules.specs.Places.{childOn}
 use Rattle.rules.specs.List.{reached}
 use Rattle.rules.specs.declared.state.State.{State}
 use Rattle.graph.specs.Cases.{is-some, is-apart}
 use Rattle.graph.specs.Walk.{kid}
 use Rattle.graph.specs.Tree.{Tree, fork, label, count, Shape, leaf, branch, label-in, Stands, top, inL, inR, stands}
 use Rattle.graph.specs.Graph.{summit}
+use Rattle.runs.specs.Holders.{Reaches, at, below}
 use Rattle.order.specs.World.{World, cell, worldOf}
 use Rattle.order.specs.Bridge.{reads-route, reads-kid}
 use Rattle.order.specs.Invariant.{Invariant}
 use Rattle.order.specs.KeyList.{root-tree, rest-small, reached-met, reached-only}
-use Rattle.order.specs.Search.{Reaches, at, below, reached-small, reached-in}
+use Rattle.order.specs.Search.{reached-small, reached-in}
 
 module _ {s : State} (i : Invariant s) where
   abbrev w : World

@@ -2,7 +2,7 @@
 use mathlib.Core.Bool.{Bool, true, false, cond, not, _&&_}
 use mathlib.Core.List.{List, [], _∷_}
 use mathlib.Core.Path.{_≡_, refl, sym, ap, ap₂, _∙_, subst}
-use Prim.Native.Nat.{ℕ, _+_, _≤_}
+use Prim.Native.Nat.{ℕ, _≤_}
 use native.Mathlib.Omega.{arith}
 use lib.Dec.{ltb, leb, eqb}
 use lib.Seq.{getD-set-same, getD-set-other}
@@ -17,58 +17,19 @@ use Rattle.rules.specs.declared.state.Settings.{Settings}
 use Rattle.rules.specs.declared.state.Thread.{Thread}
 use Rattle.rules.specs.declared.state.State.{State}
 use Rattle.rules.specs.declared.answer.Begin.{Begin}
-use Rattle.rules.specs.declared.answer.BeginReply.the-variants.{Refused, Begun}
+use Rattle.rules.specs.declared.answer.BeginReply.the-variants.{Refused}
 use Rattle.states.specs.Tests.{both, pick-by}
 use Rattle.graph.specs.Cases.{Same, same, apart, compared}
+use Rattle.runs.specs.Calls.{Call, begins, steps, afterCall, accepted, isBegun}
+use Rattle.runs.specs.Log.{commitsNow, Entry, entryOf, logOf}
+use Rattle.runs.specs.Begun.{Event, eventsOf, commitsIn, Due, dueAt, Fits, nothingDue, nothing, due, begin, commit}
 use Rattle.order.specs.Bridge.{thread-other}
 use Rattle.order.specs.Fresh.{fresh-idle}
 use Rattle.order.specs.Tally.{early, thread-tally}
 use Rattle.order.specs.Invariant.{Invariant, fresh-kept}
-use Rattle.order.specs.Passes.{Call, begins, steps, afterCall}
-use Rattle.plain.specs.Plain.{commitsNow}
-use Rattle.plain.specs.Runs.{accepted}
 use Rattle.plain.specs.Registers.{commit-done, step-same}
-use Rattle.plain.specs.Log.{Entry, entryOf, logOf, Outcome, takes, leaves, outcome}
+use Rattle.plain.specs.Log.{Outcome, takes, leaves, outcome}
 use Rattle.plain.specs.Ended.{call-kept, ended}
-
--- thread t begins operation o on key k; an operation commits
-pub data Event : Type 0 where
-  begin : (t o k : ℕ) → Event
-  commit : Entry → Event
-
--- the begin is accepted
-abbrev pub isBegun : State → ℕ → ℕ → ℕ → Bool
-isBegun s t o k = eqb (beginNumber (beginOf s t o k .reply)) 0
-
--- the accepted begins and the commits of some calls, in their order
-unfoldable pub eventsOf : State → List Call → List Event
-eventsOf s [] = []
-eventsOf s (begins t o k ∷ cs) =
-    cond (isBegun s t o k) (begin t o k ∷ eventsOf (afterCall s (begins t o k)) cs) (eventsOf (afterCall s (begins t o k)) cs)
-eventsOf s (steps t ∷ cs) =
-    cond (accepted s t && commitsNow s t) (commit (entryOf t (threadAt (after s t) t)) ∷ eventsOf (afterCall s (steps t)) cs)
-    (eventsOf (afterCall s (steps t)) cs)
-
--- the commits among some events
-unfoldable pub commitsIn : List Event → List Entry
-commitsIn [] = []
-commitsIn (begin t o k ∷ l) = commitsIn l
-commitsIn (commit e ∷ l) = e ∷ commitsIn l
-
--- the operation and key that a thread has begun and not committed
-pub data Due : Type 0 where
-  nothing : Due
-  due : (o k : ℕ) → Due
-
--- what is due, where it is d for thread t
-abbrev pub dueAt : ℕ → Due → (ℕ → Due) → ℕ → Due
-dueAt t d f u = cond (eqb u t) d (f u)
-
--- a thread begins only if nothing is due, and commits only what is due, which then is no longer
-abbrev pub Fits : (ℕ → Due) → List Event → Type 0
-Fits f [] = Unit {0}
-Fits f (begin t o k ∷ l) = (f t ≡ nothing) × Fits (dueAt t (due o k) f) l
-Fits f (commit e ∷ l) = (f (e .thread) ≡ due (e .operation) (e .key)) × Fits (dueAt (e .thread) nothing f) l
 
 -- what is due by a thread's registers
 unfoldable dueOf : Thread → Due
@@ -210,10 +171,6 @@ calls-fit {s} i (begins t o k ∷ cs) f a =
     begin-fits i f a t o k (eventsOf (beginOf s t o k .state) cs) (calls-fit (call-kept i (begins t o k)) cs) (start s t o k)
 calls-fit {s} i (steps t ∷ cs) f a =
     step-fits i f a t (eventsOf (stepOf s t .state) cs) (calls-fit (call-kept i (steps t)) cs) (outcome s t)
-
--- at first nothing is due
-abbrev pub nothingDue : ℕ → Due
-nothingDue t = nothing
 
 -- after any calls from fresh, each commit is of an operation that its thread had begun and not committed
 pub run-begun : (c : Settings) (cs : List Call) → Fits nothingDue (eventsOf (fresh c) cs)

@@ -12,34 +12,18 @@ use Rattle.rules.specs.List.{reached}
 use Rattle.rules.specs.declared.state.Place.{Place}
 use Rattle.rules.specs.declared.state.State.{State}
 use Rattle.states.specs.Tests.{both}
-use Rattle.graph.specs.Cases.{Test, holds, fails, test, Same, same, apart, compared, is-apart}
-use Rattle.graph.specs.Count.{one}
+use Rattle.graph.specs.Cases.{Test, holds, fails, test, Same, same, apart, compared}
 use Rattle.graph.specs.Tree.{count}
 use Rattle.graph.specs.Graph.{summit}
+use Rattle.runs.specs.Passes.{one}
+use Rattle.runs.specs.Holders.{late, howMany, keeps, carries, holders}
 use Rattle.order.specs.World.{cellsOf}
 use Rattle.order.specs.Bridge.{place-at, reads-route}
 use Rattle.order.specs.KeyList.{root-tree, rest-small, reached-met, reached-only}
-use Rattle.plain.specs.Held.{late, keysAt, Held, inBase, inRetired, linking-of}
+use Rattle.plain.specs.Held.{keysAt, Held, inBase, inRetired, linking-of}
 use Rattle.plain.specs.Once.{one-base, base-or-retired, one-retired}
 use Rattle.plain.specs.Plain.{Plain}
 use Rattle.plain.specs.Listed.{under-root}
-
--- how many numbers below n pass a test
-unfoldable pub howMany : (ℕ → Bool) → ℕ → ℕ
-howMany f zero = 0
-howMany f (suc n) = one (f n) + howMany f n
-
--- node b was met on the walk from the root, is a base and has the key j
-abbrev pub keeps : State → ℕ → ℕ → Bool
-keeps s j b = getD (reached s .seen) b false && (isBase (placeAt s b) && has (keysOf (placeAt s b)) j)
-
--- thread v is in phases 20 to 23, and its base register has the key j
-abbrev pub carries : State → ℕ → ℕ → Bool
-carries s j v = late (threadAt s v .phase) && has (keysOf (placeAt s (threadAt s v .base))) j
-
--- the number of such bases
-unfoldable pub holders : State → ℕ → ℕ
-holders s j = howMany (keeps s j) 128 + howMany (carries s j) 8
 
 -- none passes
 many-none : (f : ℕ → Bool) (n : ℕ) → ((a : ℕ) → a < n → f a ≡ true → ⊥) → howMany f n ≡ 0

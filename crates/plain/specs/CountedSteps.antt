@@ -1,43 +1,29 @@
 -- Counted steps are as many steps, one by one: what demand 3 says of calls it says of schedule lines.
-use mathlib.Core.Bool.{Bool, true, false, cond, not, _&&_, _||_, true≢false}
-use mathlib.Core.List.{List, [], _∷_}
+use mathlib.Core.Bool.{Bool, true, false, not, _&&_, _||_, true≢false}
 use mathlib.Core.Path.{_≡_, refl, sym, ap, _∙_}
 use Prim.Native.Nat.{ℕ, zero, suc, _≤_, _<_}
 use native.Mathlib.Omega.{arith}
 use lib.Dec.{ltb, eqb}
 use borrow.Author.Tests.{ltb-false, eqb-true, eqb-false, ne-eqb, le-ltb, not-false}
 use Rattle.rules.specs.State.{threadAt}
-use Rattle.rules.specs.Rows.{planOf, stuck}
+use Rattle.rules.specs.Rows.{stuck}
 use Rattle.rules.specs.Range.{inRange}
 use Rattle.rules.specs.Follow.{follows}
-use Rattle.rules.specs.Step.{viewBefore, viewOf, after, ends, replyOf, stepOf, runOf}
+use Rattle.rules.specs.Step.{viewBefore, viewOf, after, ends, stepOf, runOf}
 use Rattle.rules.specs.Step as Rules
 use Rattle.rules.specs.declared.state.State.{State}
 use Rattle.rules.specs.declared.state.Thread.{Thread}
 use Rattle.rules.specs.declared.answer.Step as Step
 use Rattle.rules.specs.declared.answer.Run.{Run}
-use Rattle.rules.specs.declared.answer.RunReply as RunReply
 use Rattle.states.specs.Tests.{pick-by, both}
 use Rattle.states.specs.Calls.{steps-tests, run-tests}
 use Rattle.states.specs.Facts.{facts}
 use Rattle.states.specs.Followed.{followed}
 use Rattle.states.specs.Kept.{after-in-range}
 use Rattle.graph.specs.Cases.{Same, same, apart, compared}
+use Rattle.runs.specs.Calls.{Call, steps, afterCall, afterCalls, times, takenBy}
 use Rattle.order.specs.Bridge.{thread-after}
 use Rattle.order.specs.Invariant.{Invariant, after-kept}
-use Rattle.order.specs.Passes.{Call, begins, steps, afterCall}
-use Rattle.plain.specs.Runs.{afterCalls}
-
--- a call n times
-unfoldable pub times : ℕ → Call → List Call
-times zero c = []
-times (suc n) c = c ∷ times n c
-
--- the steps that a reply to counted steps says were taken
-abbrev pub takenBy : RunReply.RunReply → ℕ
-takenBy (RunReply.the-variants.Stops n p) = n
-takenBy (RunReply.the-variants.Ends n a c) = n
-takenBy (RunReply.the-variants.Refused n) = 0
 
 -- a test of the numbers below n
 allBelow : (ℕ → Bool) → ℕ → Bool

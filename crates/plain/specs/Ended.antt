@@ -11,7 +11,7 @@ use Rattle.rules.specs.State.{zeroThread, fresh, placeAt, threadAt}
 use Rattle.rules.specs.Registers.{setOperation}
 use Rattle.rules.specs.Range.{inRange}
 use Rattle.rules.specs.Rows.{rows, row25, planOf, stuck}
-use Rattle.rules.specs.Step.{begun, beginOf, viewBefore, viewOf, apply, after, ends, replyOf, stepOf}
+use Rattle.rules.specs.Step.{begun, beginOf, viewBefore, viewOf, after, ends, replyOf, stepOf}
 use Rattle.rules.specs.declared.state.Settings.{Settings}
 use Rattle.rules.specs.declared.state.Thread.{Thread}
 use Rattle.rules.specs.declared.state.State.{State}
@@ -21,28 +21,14 @@ use Rattle.rules.specs.declared.answer.StepReply as StepReply
 use Rattle.states.specs.Tests.{pick-by}
 use Rattle.states.specs.Followed.{step-ends}
 use Rattle.graph.specs.Cases.{Same, same, apart, compared}
+use Rattle.runs.specs.Calls.{Call, begins, steps, afterCall, accepted, afterCalls}
+use Rattle.runs.specs.Log.{commitsNow, Entry, entryOf, logOf, Logged, past, replied, later, first}
 use Rattle.order.specs.Bridge.{thread-other, thread-row}
 use Rattle.order.specs.Fresh.{fresh-idle}
 use Rattle.order.specs.Tally.{early, thread-tally}
 use Rattle.order.specs.Invariant.{Invariant, fresh-kept, begin-kept, step-kept}
-use Rattle.order.specs.Passes.{Call, begins, steps, afterCall}
-use Rattle.plain.specs.Plain.{commitsNow}
-use Rattle.plain.specs.Runs.{accepted, afterCalls}
 use Rattle.plain.specs.Registers.{step-same}
-use Rattle.plain.specs.Log.{Entry, entryOf, logOf, Outcome, takes, leaves, outcome}
-
--- e is in the log
-pub data Logged (e : Entry) : List Entry → Type 0 where
-  first : {l : List Entry} → Logged e (e ∷ l)
-  later : {d : Entry} {l : List Entry} → Logged e l → Logged e (d ∷ l)
-
--- a thread past its commit: phases 6 to 25
-abbrev pub past : Thread → Type 0
-past t = 6 ≤ t .phase
-
--- a commit of the operation of thread n with the answer and the commit number of a reply
-abbrev pub replied : ℕ → Thread → ℕ → ℕ → Entry
-replied n t a m = record { thread = n; operation = t .operation; key = t .key; answer = a; number = m }
+use Rattle.plain.specs.Log.{Outcome, takes, leaves, outcome}
 
 -- at s and later at s′ the thread is past one commit
 record Waits (n : ℕ) (a b : Thread) : Type 0 where

@@ -15,4 +15,3 @@ pub mod Begun
 pub mod Quiet
 pub mod CountedSteps
 pub mod Demand
-pub mod Instance

@@ -16,11 +16,12 @@ use Rattle.graph.specs.Cases.{Same, same, apart, compared, is-same, is-apart, i
 use Rattle.graph.specs.Walk.{Cell}
 use Rattle.graph.specs.Tree.{Tree, fork, count, Shape, leaf, branch, Stands, top, inL, inR, stands}
 use Rattle.graph.specs.Graph.{summit}
+use Rattle.runs.specs.Holders.{late}
 use Rattle.order.specs.World.{World, cell, cellsOf, keys, worldOf}
 use Rattle.order.specs.Bridge.{place-at}
 use Rattle.order.specs.Walks.{summit-at}
 use Rattle.order.specs.KeyList.{keysIn, root-tree, reached-keys}
-use Rattle.plain.specs.Held.{late, keysAt, Held, inBase, inRetired, linking-of}
+use Rattle.plain.specs.Held.{keysAt, Held, inBase, inRetired, linking-of}
 use Rattle.plain.specs.Plain.{Plain}
 
 -- j is a key of the base register of one of the first n threads that is in phases 20 to 23

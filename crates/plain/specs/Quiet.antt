@@ -1,5 +1,5 @@
 -- While no thread is between splice and link, the key list is the plain set.
-use mathlib.Core.Bool.{Bool, true, false, cond, not, _&&_, _||_}
+use mathlib.Core.Bool.{Bool, true, false, _||_}
 use mathlib.Core.List.{List, [], _∷_}
 use mathlib.Core.Path.{_≡_, refl, sym, ap, _∙_}
 use Prim.Native.Nat.{ℕ, zero, suc, _%_, _^_, _≤_, _<_}
@@ -8,8 +8,8 @@ use lib.Dec.{eqb}
 use lib.ListN.{getD}
 use Rattle.keys.specs.Keys.{has}
 use Rattle.keys.specs.Laws.{with-lt, without-lt, union-lt, same-keys}
-use Rattle.rules.specs.State.{zeroPlace, fresh, placeAt, threadAt}
-use Rattle.rules.specs.Places.{keysOf, keysOfBody, keysAfter}
+use Rattle.rules.specs.State.{zeroPlace, fresh}
+use Rattle.rules.specs.Places.{keysOfBody, keysAfter}
 use Rattle.rules.specs.Range.{settingsInRange, inRange}
 use Rattle.rules.specs.List.{unmet, again, meets, lists, gather, reached, keyListOf}
 use Rattle.rules.specs.declared.state.Settings.{Settings}
@@ -18,22 +18,18 @@ use Rattle.rules.specs.declared.state.Body.the-variants.{Base, Route}
 use Rattle.rules.specs.declared.state.Place.{Place}
 use Rattle.rules.specs.declared.state.State.{State}
 use Rattle.rules.specs.declared.list.Met.{Met}
-use Rattle.rules.specs.declared.answer.ListReply.{ListReply}
-use Rattle.rules.specs.declared.answer.ListReply.the-variants.{Keys, Refused}
+use Rattle.rules.specs.declared.answer.ListReply.the-variants.{Keys}
 use Rattle.states.specs.Tests.{pick}
 use Rattle.states.specs.Whole.{HasSet, Whole, fresh-whole, begin-whole, step-whole}
 use Rattle.states.specs.Kept.{fresh-in-range, begin-in-range, step-in-range}
+use Rattle.runs.specs.Calls.{Call, begins, steps, afterCall, afterCalls}
+use Rattle.runs.specs.Log.{Entry, logOf, playLog}
+use Rattle.runs.specs.Holders.{Quiet}
 use Rattle.order.specs.KeyList.{entering, enters, reached-once}
-use Rattle.order.specs.Passes.{Call, begins, steps, afterCall}
-use Rattle.plain.specs.Held.{late}
 use Rattle.plain.specs.Plain.{Plain}
 use Rattle.plain.specs.Listed.{retiredIn, retired, plain-keys}
-use Rattle.plain.specs.Runs.{afterCalls, plainAfter, run-plain}
-use Rattle.plain.specs.Log.{Entry, logOf, playLog, run-log}
-
--- no thread is in phases 20 to 23
-abbrev pub Quiet : State → Type 0
-Quiet s = (v : ℕ) → v ≤ 7 → late (threadAt s v .phase) ≡ false
+use Rattle.plain.specs.Runs.{plainAfter, run-plain}
+use Rattle.plain.specs.Log.{run-log}
 
 -- calls keep a state whole and in range
 calls-whole : (s : State) (cs : List Call) → Whole s → Whole (afterCalls s cs)
