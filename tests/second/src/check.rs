@@ -7,20 +7,19 @@
 
 use crate::sheet::Onlooker;
 use crate::tree::*;
+use crate::walks::Walks;
 
 pub const MOST_ROUTES_OF_A_WALK: usize = 42;
 
 pub struct Checker {
     pub steps: u64,
-    pub most_routes: usize,
+    pub walks: Walks,
     pub failures: Vec<String>,
     /// The plain set, changed at each commit.
     plain_set: [bool; KEYS],
     commits: u32,
     /// What each thread's operation should answer, once it has committed.
     expected: [Option<(u32, u32)>; THREADS],
-    /// Routes passed through by each thread's walk so far.
-    routes_passed: [usize; THREADS],
     before: Option<State>,
 }
 
@@ -28,12 +27,11 @@ impl Checker {
     pub fn new() -> Checker {
         Checker {
             steps: 0,
-            most_routes: 0,
+            walks: Walks::new(),
             failures: Vec::new(),
             plain_set: [false; KEYS],
             commits: 0,
             expected: [None; THREADS],
-            routes_passed: [0; THREADS],
             before: None,
         }
     }
@@ -78,27 +76,8 @@ impl Checker {
         }
     }
 
-    fn check_walk(&mut self, before: &State, state: &State, thread: usize) {
-        let phase = before.threads[thread].phase;
-        if !matches!(phase, 1 | 2 | 9 | 10 | 15 | 16 | 21 | 22) {
-            return;
-        }
-        if matches!(phase, 1 | 9 | 15 | 21) {
-            self.routes_passed[thread] = 0;
-        }
-        // The step at 22 that goes on to 23 sets nothing.
-        let sets_walk = !(phase == 22 && state.threads[thread].phase == 23);
-        if sets_walk {
-            if let Some(walk) = state.threads[thread].walk {
-                if state.is_route(walk) {
-                    self.routes_passed[thread] += 1;
-                }
-            }
-        }
-        let passed = self.routes_passed[thread];
-        if passed > self.most_routes {
-            self.most_routes = passed;
-        }
+    fn check_walk(&mut self, state: &State, thread: usize, old_phase: u32) {
+        let passed = self.walks.after_step(state, thread, old_phase).unwrap_or(0);
         if passed > MOST_ROUTES_OF_A_WALK {
             self.fail(format!(
                 "thread {thread}'s walk passed through {passed} routes"
@@ -201,7 +180,6 @@ impl Onlooker for Checker {
         self.plain_set = [false; KEYS];
         self.commits = 0;
         self.expected = [None; THREADS];
-        self.routes_passed = [0; THREADS];
         self.check_keys(state);
     }
 
@@ -230,7 +208,7 @@ impl Onlooker for Checker {
             ));
         }
         self.check_answer(thread, reply);
-        self.check_walk(&before, state, thread);
+        self.check_walk(state, thread, old.phase);
         self.check_keys(state);
         self.check_locks(state);
         if !state.in_range() {

@@ -2,6 +2,7 @@
 
 use crate::sheet::{key_sheet_watched, Onlooker};
 use crate::tree::*;
+use crate::walks::Walks;
 
 /// What one schedule reached: (name, times).
 pub struct Counts {
@@ -12,7 +13,6 @@ pub struct Counts {
     pub times: Vec<u64>,
     in_this_one: Vec<u64>,
     glimpse: Glimpse,
-    routes_passed: [usize; THREADS],
     steps_at_10: [usize; THREADS],
     steps_at_16: [usize; THREADS],
     steps_at_22: [usize; THREADS],
@@ -20,7 +20,7 @@ pub struct Counts {
     others_steps_in_join: [u64; THREADS],
     pub total_steps: u64,
     pub total_bytes: u64,
-    pub most_routes: usize,
+    pub walks: Walks,
     pub played: u64,
 }
 
@@ -115,7 +115,6 @@ impl Counts {
                 neighbour_valid: false,
                 walk_free: false,
             },
-            routes_passed: [0; THREADS],
             steps_at_10: [0; THREADS],
             steps_at_16: [0; THREADS],
             steps_at_22: [0; THREADS],
@@ -123,7 +122,7 @@ impl Counts {
             others_steps_in_join: [0; THREADS],
             total_steps: 0,
             total_bytes: 0,
-            most_routes: 0,
+            walks: Walks::new(),
             played: 0,
         }
     }
@@ -168,26 +167,9 @@ impl Counts {
     }
 
     fn count_walk(&mut self, state: &State, thread: usize, old_phase: u32) {
-        if matches!(old_phase, 1 | 9 | 15 | 21) {
-            self.routes_passed[thread] = 0;
-        }
-        if !matches!(old_phase, 1 | 2 | 9 | 10 | 15 | 16 | 21 | 22) {
-            return;
-        }
-        if old_phase == 22 && state.threads[thread].phase == 23 {
-            return;
-        }
-        if let Some(walk) = state.threads[thread].walk {
-            if state.is_route(walk) {
-                self.routes_passed[thread] += 1;
-            }
-        }
-        let passed = self.routes_passed[thread];
-        if passed > self.most_routes {
-            self.most_routes = passed;
-        }
-        self.mark_if(passed == 42, "42 routes in a walk");
-        self.mark_if(passed == 20, "20 or more routes in a walk");
+        let passed = self.walks.after_step(state, thread, old_phase);
+        self.mark_if(passed == Some(42), "42 routes in a walk");
+        self.mark_if(passed == Some(20), "20 or more routes in a walk");
     }
 
     fn count_joins_at_once(&mut self, state: &State, thread: usize) {

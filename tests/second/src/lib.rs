@@ -8,3 +8,4 @@ pub mod making;
 pub mod random;
 pub mod sheet;
 pub mod tree;
+pub mod walks;

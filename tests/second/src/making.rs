@@ -113,14 +113,16 @@ fn line_of_settings(s: Settings) -> Vec<u8> {
     format!("R\t{}\t{}\t{}\t{}", s.succ, s.fail, s.min, s.max).into_bytes()
 }
 
+const SOURCE_SETTINGS: Settings = Settings {
+    succ: 1,
+    fail: 250,
+    min: -1000,
+    max: 1000,
+};
+
 fn any_settings(random: &mut Random) -> Settings {
     match random.below(10) {
-        0 => Settings {
-            succ: 1,
-            fail: 250,
-            min: -1000,
-            max: 1000,
-        },
+        0 => SOURCE_SETTINGS,
         1 => Settings {
             succ: random.pick(&[0, 1, 999, 1000]),
             fail: random.pick(&[0, 1, 999, 1000]),
@@ -179,26 +181,10 @@ fn damage(random: &mut Random, line: &[u8]) -> Vec<u8> {
     match random.below(34) {
         0 => return Vec::new(),
         1 => return vec![b'\r'],
-        2 => {
-            let mut out = line.to_vec();
-            out.push(b'\r');
-            return out;
-        }
-        3 => {
-            let mut out = line.to_vec();
-            out.push(b' ');
-            return out;
-        }
-        4 => {
-            let mut out = line.to_vec();
-            out.push(b'\t');
-            return out;
-        }
-        5 => {
-            let mut out = vec![random.pick(b" \t\r0BSR")];
-            out.extend_from_slice(line);
-            return out;
-        }
+        2 => return [line, b"\r"].concat(),
+        3 => return [line, b" "].concat(),
+        4 => return [line, b"\t"].concat(),
+        5 => return [&[random.pick(b" \t\r0BSR")], line].concat(),
         6 => {
             let mut out = line.to_vec();
             let i = random.below(out.len() + 1);
@@ -422,6 +408,11 @@ impl Maker {
         self.good_line(format!("S\t{t}\t{count}").as_bytes());
     }
 
+    fn some_steps(&mut self, t: usize, least: usize, most: usize) {
+        let count = self.random.between(least, most);
+        self.steps(t, count);
+    }
+
     // ---- seeing ----------------------------------------------------------
 
     fn phase(&self, t: usize) -> u32 {
@@ -432,20 +423,14 @@ impl Maker {
         let idle: Vec<usize> = (0..self.threads_used)
             .filter(|&t| self.phase(t) == 0)
             .collect();
-        if idle.is_empty() {
-            return None;
-        }
-        Some(self.random.pick(&idle))
+        self.random.pick_if_any(&idle)
     }
 
     fn busy_thread(&mut self) -> Option<usize> {
         let busy: Vec<usize> = (0..self.threads_used)
             .filter(|&t| self.phase(t) != 0 && self.left_for[t] == 0)
             .collect();
-        if busy.is_empty() {
-            return None;
-        }
-        Some(self.random.pick(&busy))
+        self.random.pick_if_any(&busy)
     }
 
     fn any_key(&mut self) -> usize {
@@ -475,10 +460,7 @@ impl Maker {
     /// A key that leads to this base, if it is reachable.
     fn key_leading_to(&mut self, base: usize) -> Option<usize> {
         let keys: Vec<usize> = (0..KEYS).filter(|&k| self.base_of(k).0 == base).collect();
-        if keys.is_empty() {
-            return None;
-        }
-        Some(self.random.pick(&keys))
+        self.random.pick_if_any(&keys)
     }
 
     /// A key that leads to a base with this parent.
@@ -486,10 +468,7 @@ impl Maker {
         let keys: Vec<usize> = (0..KEYS)
             .filter(|&k| self.base_of(k).1 == Some(parent))
             .collect();
-        if keys.is_empty() {
-            return None;
-        }
-        Some(self.random.pick(&keys))
+        self.random.pick_if_any(&keys)
     }
 
     fn room(&self) -> bool {
@@ -553,10 +532,17 @@ impl Maker {
         if trial.threads[t].phase == 0 || self.random.one_in(40) {
             self.steps(t, asked);
         } else {
-            let few = self.random.between(1, 30);
-            self.steps(t, few);
+            self.some_steps(t, 1, 30);
         }
         self.phase(t) == 0
+    }
+
+    /// Runs every thread to its end, one after the other, also those left.
+    fn finish_all(&mut self) {
+        self.left_for = [0; THREADS];
+        for t in 0..THREADS {
+            self.finish(t);
+        }
     }
 
     /// Leaves a thread as it stands while others go on.
@@ -583,8 +569,7 @@ impl Maker {
             return None;
         }
         if self.random.one_in(4) {
-            let waits = self.random.between(1, 3);
-            self.steps(b, waits);
+            self.some_steps(b, 1, 3);
         }
         if !self.finish(a) {
             return None;
@@ -644,31 +629,42 @@ impl Maker {
         false
     }
 
+    /// An idle thread, brought to phase 9 for the base of a key.
+    fn thread_at_a_join(&mut self, key: usize) -> Option<usize> {
+        let t = self.idle_thread()?;
+        self.to_a_join(t, key).then_some(t)
+    }
+
+    /// Steps a thread to some phase of its join, not before this one, and leaves it
+    /// there.
+    fn go_on_and_leave(&mut self, t: usize, first_stop: usize) {
+        let stop = self.random.between(first_stop, 24) as u32;
+        self.step_to(t, 120, |phase| phase >= stop);
+        self.leave(t);
+    }
+
     /// Brings a thread into the middle of a join and leaves it there.
     fn join_and_leave(&mut self, key: usize) {
-        let t = match self.idle_thread() {
-            None => return,
-            Some(t) => t,
-        };
-        if self.to_a_join(t, key) {
-            let stop = self.random.between(9, 24) as u32;
-            self.step_to(t, 120, |phase| phase >= stop);
-            self.leave(t);
+        if let Some(t) = self.thread_at_a_join(key) {
+            self.go_on_and_leave(t, 9);
         }
     }
 
     /// Joins the base of a key to the end, if nothing is in the way.
     fn join(&mut self, key: usize) -> bool {
-        let t = match self.idle_thread() {
-            None => return false,
-            Some(t) => t,
-        };
-        if !self.to_a_join(t, key) {
+        let Some(t) = self.thread_at_a_join(key) else {
             return false;
-        }
+        };
         let made = self.state.made;
         self.finish(t);
         self.state.made > made
+    }
+
+    fn insert(&mut self, key: usize) {
+        if let Some(t) = self.idle_thread() {
+            self.begin(t, INSERT, key);
+            self.finish(t);
+        }
     }
 
     /// Inserts keys of the pool one after the other.
@@ -676,10 +672,7 @@ impl Maker {
         let mut keys = self.key_pool.clone();
         keys.truncate(most);
         for key in keys {
-            if let Some(t) = self.idle_thread() {
-                self.begin(t, INSERT, key);
-                self.finish(t);
-            }
+            self.insert(key);
         }
     }
 
@@ -697,6 +690,14 @@ impl Maker {
             if count_keys(&self.state.nodes[base].keys) >= 2 && self.split(key) {
                 done += 1;
             }
+        }
+    }
+
+    fn in_either_order(&mut self, a: usize, c: usize) -> [usize; 2] {
+        if self.random.one_in(2) {
+            [a, c]
+        } else {
+            [c, a]
         }
     }
 
@@ -759,9 +760,8 @@ impl Maker {
             let (base, _) = self.base_of(key);
             if count_keys(&self.state.nodes[base].keys) >= 2 {
                 self.split(key);
-            } else if let Some(t) = self.idle_thread() {
-                self.begin(t, INSERT, key);
-                self.finish(t);
+            } else {
+                self.insert(key);
             }
         }
     }
@@ -769,10 +769,7 @@ impl Maker {
     /// A crossing, with a key that leads to each of its two bases.
     fn any_crossing(&mut self) -> Option<(usize, usize, usize)> {
         let found = self.crossings();
-        if found.is_empty() {
-            return None;
-        }
-        let (x, high, low) = self.random.pick(&found);
+        let (x, high, low) = self.random.pick_if_any(&found)?;
         let high_key = self.key_leading_to(high)?;
         let low_key = self.key_leading_to(low)?;
         Some((x, high_key, low_key))
@@ -781,34 +778,27 @@ impl Maker {
     /// G is spliced out by another join while a thread waits to take it: row 18
     /// finds it invalid.
     fn scene_g_invalid(&mut self) -> bool {
-        let (x, high_key, low_key) = match self.any_crossing() {
-            None => return false,
-            Some(crossing) => crossing,
+        let Some((x, high_key, low_key)) = self.any_crossing() else {
+            return false;
         };
-        let a = match self.idle_thread() {
-            None => return false,
-            Some(a) => a,
+        let Some(a) = self.thread_at_a_join(low_key) else {
+            return false;
         };
-        if !self.to_a_join(a, low_key) || !self.step_to(a, 120, |phase| phase == 17) {
+        if !self.step_to(a, 120, |phase| phase == 17) {
             return false;
         }
         if self.state.threads[a].grandparent != Some(x) {
             return false;
         }
-        let c = match self.idle_thread() {
-            None => return false,
-            Some(c) => c,
-        };
-        if !self.to_a_join(c, high_key) {
+        let Some(c) = self.thread_at_a_join(high_key) else {
             return false;
-        }
+        };
         let stop = self.random.between(14, 20) as u32;
         if !self.step_to(c, 120, |phase| phase >= stop && phase <= 24) {
             return false;
         }
         if self.state.nodes[x].holder.is_some() {
-            let waits = self.random.between(1, 4);
-            self.steps(a, waits);
+            self.some_steps(a, 1, 4);
         }
         if !self.step_to(c, 120, |phase| phase >= 21 && phase <= 24) {
             return false;
@@ -824,11 +814,7 @@ impl Maker {
             0 | 1 => {
                 self.finish(a);
             }
-            2 => {
-                let stop = self.random.between(16, 24) as u32;
-                self.step_to(a, 120, |phase| phase >= stop);
-                self.leave(a);
-            }
+            2 => self.go_on_and_leave(a, 16),
             _ => self.leave(a),
         }
         true
@@ -837,9 +823,8 @@ impl Maker {
     /// The join below takes X as its G first; the join above, which has seen X's
     /// far child at 9, waits for X at 13 and finds another far child at 21.
     fn scene_far_child_changes(&mut self) -> bool {
-        let (x, high_key, low_key) = match self.any_crossing() {
-            None => return false,
-            Some(crossing) => crossing,
+        let Some((x, high_key, low_key)) = self.any_crossing() else {
+            return false;
         };
         let (a, c) = match (self.idle_thread(), self.idle_thread()) {
             (Some(a), Some(c)) if a != c => (a, c),
@@ -872,30 +857,19 @@ impl Maker {
             return false;
         }
         if self.random.one_in(2) {
-            let waits = self.random.between(1, 5);
-            self.steps(a, waits);
+            self.some_steps(a, 1, 5);
         }
         let stop = self.random.between(20, 24) as u32;
         if !self.step_to(c, 20, |phase| phase >= stop) {
             return false;
         }
-        let waits = self.random.between(1, 2);
-        self.steps(a, waits);
-        let order = if self.random.one_in(2) {
-            [a, c]
-        } else {
-            [c, a]
-        };
-        for t in order {
+        self.some_steps(a, 1, 2);
+        for t in self.in_either_order(a, c) {
             match self.random.below(4) {
                 0 | 1 => {
                     self.finish(t);
                 }
-                2 => {
-                    let stop = self.random.between(14, 24) as u32;
-                    self.step_to(t, 120, |phase| phase >= stop);
-                    self.leave(t);
-                }
+                2 => self.go_on_and_leave(t, 14),
                 _ => {}
             }
         }
@@ -905,9 +879,8 @@ impl Maker {
     /// Several threads are brought into joins at once and left there.
     fn scene_many_joins(&mut self) {
         for _ in 0..self.random.between(3, 7) {
-            let t = match self.idle_thread() {
-                None => return,
-                Some(t) => t,
+            let Some(t) = self.idle_thread() else {
+                return;
             };
             let key = self.random.below(KEYS);
             let stop = self.random.between(13, 23) as u32;
@@ -933,18 +906,16 @@ impl Maker {
     /// A thread has chosen its neighbour and not yet tried it; the neighbour is
     /// split, or joined away: row 12 finds it invalid.
     fn scene_n_invalid(&mut self) -> bool {
-        let a = match self.idle_thread() {
-            None => return false,
-            Some(a) => a,
+        let Some(a) = self.idle_thread() else {
+            return false;
         };
         let key = self.any_key();
         if !self.to_a_join(a, key) || !self.step_to(a, 60, |phase| phase == 11) {
             return false;
         }
         let n = self.state.threads[a].walk.unwrap();
-        let there = match self.key_leading_to(n) {
-            None => return false,
-            Some(key) => key,
+        let Some(there) = self.key_leading_to(n) else {
+            return false;
         };
         let changed = if self.random.one_in(3) {
             self.join(there)
@@ -967,9 +938,8 @@ impl Maker {
     fn scene_retry(&mut self) -> bool {
         let key = self.any_key();
         let (base, _) = self.base_of(key);
-        let b = match self.contended(key, LOOKUP, key) {
-            None => return false,
-            Some(b) => b,
+        let Some(b) = self.contended(key, LOOKUP, key) else {
+            return false;
         };
         let waiting = self.random.between(1, 4);
         let mut waiters = Vec::new();
@@ -1019,11 +989,10 @@ impl Maker {
             return false;
         }
         let key = self.random.pick(&good);
-        let t = match self.idle_thread() {
-            None => return false,
-            Some(t) => t,
+        let Some(t) = self.thread_at_a_join(key) else {
+            return false;
         };
-        if !self.to_a_join(t, key) || !self.step_to(t, 120, |phase| phase == 22) {
+        if !self.step_to(t, 120, |phase| phase == 22) {
             return false;
         }
         match self.random.below(3) {
@@ -1045,9 +1014,8 @@ impl Maker {
     /// A join above and a join below that take the same route: the one waits at
     /// 13 or 17 for the other, and P's far child changes under the one above.
     fn scene_joins_meet(&mut self) -> bool {
-        let a = match self.idle_thread() {
-            None => return false,
-            Some(a) => a,
+        let Some(a) = self.idle_thread() else {
+            return false;
         };
         let key = self.any_key();
         let stop = self.random.between(11, 14) as u32;
@@ -1056,18 +1024,16 @@ impl Maker {
         }
         let p = self.state.threads[a].prev.unwrap();
         let far = self.state.child_on(p, self.state.threads[a].side);
-        let c = match self.idle_thread() {
-            None => return false,
-            Some(c) => c,
+        let Some(c) = self.idle_thread() else {
+            return false;
         };
         let other = if self.state.is_route(far) && self.random.one_in(2) {
             self.key_under(far)
         } else {
             Some(self.any_key())
         };
-        let other = match other {
-            None => return false,
-            Some(key) => key,
+        let Some(other) = other else {
+            return false;
         };
         if !self.to_a_join(c, other) {
             return false;
@@ -1082,23 +1048,13 @@ impl Maker {
         if !met {
             return false;
         }
-        let count = self.random.between(1, 6);
-        self.steps(a, count);
-        let order = if self.random.one_in(2) {
-            [a, c]
-        } else {
-            [c, a]
-        };
-        for t in order {
+        self.some_steps(a, 1, 6);
+        for t in self.in_either_order(a, c) {
             match self.random.below(3) {
                 0 => {
                     self.finish(t);
                 }
-                1 => {
-                    let stop = self.random.between(13, 24) as u32;
-                    self.step_to(t, 120, |phase| phase >= stop);
-                    self.leave(t);
-                }
+                1 => self.go_on_and_leave(t, 13),
                 _ => {}
             }
         }
@@ -1123,29 +1079,20 @@ impl Maker {
         if self.random.one_in(40) {
             // On any thread, idle or not, left or not.
             let t = self.random.below(THREADS);
-            let count = self.random.between(1, 3);
-            self.steps(t, count);
+            self.some_steps(t, 1, 3);
             return;
         }
-        let t = match self.busy_thread() {
-            None => return,
-            Some(t) => t,
+        let Some(t) = self.busy_thread() else {
+            return;
         };
         match self.random.below(100) {
             0..=44 => self.steps(t, 1),
-            45..=64 => {
-                let count = self.random.between(2, 4);
-                self.steps(t, count);
-            }
-            65..=76 => {
-                let count = self.random.between(5, 12);
-                self.steps(t, count);
-            }
+            45..=64 => self.some_steps(t, 2, 4),
+            65..=76 => self.some_steps(t, 5, 12),
             77 => {
                 // More often than not this ends the operation; else it waits long.
                 let most = if self.random.one_in(4) { 999 } else { 60 };
-                let count = self.random.between(13, most);
-                self.steps(t, count);
+                self.some_steps(t, 13, most);
             }
             78..=91 => {
                 self.finish(t);
@@ -1319,10 +1266,7 @@ impl Maker {
         let mut low = 0;
         let mut high = KEYS;
         // The deepest base holds the key low alone, and its keys are low to high - 1.
-        if let Some(t) = self.idle_thread() {
-            self.begin(t, INSERT, 0);
-            self.finish(t);
-        }
+        self.insert(0);
         for _ in 0..depth {
             if high - low < 2 {
                 break;
@@ -1399,17 +1343,11 @@ impl Maker {
                 self.wake_some();
             }
             if self.idle_thread().is_none() || self.random.one_in(6) {
-                self.left_for = [0; THREADS];
-                for t in 0..THREADS {
-                    self.finish(t);
-                }
+                self.finish_all();
             }
         }
         self.damaged_one_in = damaged_one_in;
-        self.left_for = [0; THREADS];
-        for t in 0..THREADS {
-            self.finish(t);
-        }
+        self.finish_all();
         self.budget = self.out.len() + self.random.between(50, 1500);
         while self.room() {
             let key = self.any_key();
@@ -1434,12 +1372,7 @@ impl Maker {
     /// The source's settings: splits after five contended takings, joins after
     /// more than a thousand others.
     fn source_settings(&mut self) {
-        self.first_line(Settings {
-            succ: 1,
-            fail: 250,
-            min: -1000,
-            max: 1000,
-        });
+        self.first_line(SOURCE_SETTINGS);
         if self.key_pool.len() < 2 {
             self.key_pool = vec![5, 9];
         }
@@ -1570,9 +1503,7 @@ impl Maker {
         match self.random.below(10) {
             0..=2 => {
                 for _ in 0..3 {
-                    for t in 0..THREADS {
-                        self.finish(t);
-                    }
+                    self.finish_all();
                 }
             }
             3..=6 => {

@@ -41,4 +41,11 @@ impl Random {
     pub fn pick<T: Copy>(&mut self, list: &[T]) -> T {
         list[self.below(list.len())]
     }
+
+    pub fn pick_if_any<T: Copy>(&mut self, list: &[T]) -> Option<T> {
+        if list.is_empty() {
+            return None;
+        }
+        Some(self.pick(list))
+    }
 }

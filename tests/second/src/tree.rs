@@ -755,17 +755,11 @@ impl State {
     }
 
     fn a_route(&self, register: Register) -> bool {
-        match register {
-            None => false,
-            Some(node) => self.nodes[node].kind == Kind::Route,
-        }
+        register.is_some_and(|node| self.is_route(node))
     }
 
     fn a_base(&self, register: Register) -> bool {
-        match register {
-            None => false,
-            Some(node) => self.nodes[node].kind == Kind::Base,
-        }
+        register.is_some_and(|node| !self.is_route(node))
     }
 
     fn none_or_a_route(&self, register: Register) -> bool {

@@ -45,6 +45,13 @@ fn steps(state: &mut State, thread: usize, count: usize) -> Reply {
     reply
 }
 
+fn ended(answer: u32, commit_number: u32) -> Reply {
+    Reply::Ended {
+        answer,
+        commit_number,
+    }
+}
+
 fn keys_of(state: &State, node: usize) -> Vec<usize> {
     (0..KEYS).filter(|&k| state.nodes[node].keys[k]).collect()
 }
@@ -86,28 +93,14 @@ fn state_after_b() -> State {
     assert_eq!(state.threads[1].phase, 4);
     steps(&mut state, 1, 1);
     assert_eq!(state.threads[1].phase, 4);
-    let ended = steps(&mut state, 0, 1000);
-    assert_eq!(
-        ended,
-        Reply::Ended {
-            answer: 1,
-            commit_number: 4
-        }
-    );
+    assert_eq!(steps(&mut state, 0, 1000), ended(1, 4));
     // "Thread 1 takes 1: phase 5, statistics 3; 1 more: phase 6"
     steps(&mut state, 1, 1);
     assert_eq!(state.threads[1].phase, 5);
     assert_eq!(state.nodes[0].statistics, 3);
     steps(&mut state, 1, 1);
     assert_eq!(state.threads[1].phase, 6);
-    let ended = steps(&mut state, 1, 4);
-    assert_eq!(
-        ended,
-        Reply::Ended {
-            answer: 1,
-            commit_number: 5
-        }
-    );
+    assert_eq!(steps(&mut state, 1, 4), ended(1, 5));
     state
 }
 

@@ -47,7 +47,7 @@ fn counts(from: u64, count: u64) -> io::Result<()> {
     writeln!(
         output,
         "{} schedules from seed {}, {} bytes, {} steps, at most {} routes in a walk",
-        counts.played, from, counts.total_bytes, counts.total_steps, counts.most_routes
+        counts.played, from, counts.total_bytes, counts.total_steps, counts.walks.most_routes
     )?;
     writeln!(output)?;
     writeln!(output, "| reached | schedules | 1 in | times |")?;

@@ -5,7 +5,7 @@
 use second_player::check::Checker;
 use second_player::frames::{read_frame, write_frame};
 use second_player::sheet::{key_sheet, key_sheet_watched};
-use std::io::{self, BufReader, BufWriter, Read, Write};
+use std::io::{self, BufReader, BufWriter, Read, StdinLock, Write};
 use std::process::exit;
 
 fn main() -> io::Result<()> {
@@ -23,14 +23,22 @@ fn main() -> io::Result<()> {
     }
 }
 
-fn one() -> io::Result<()> {
+fn whole_input() -> io::Result<Vec<u8>> {
     let mut schedule = Vec::new();
     io::stdin().lock().read_to_end(&mut schedule)?;
-    io::stdout().lock().write_all(&key_sheet(&schedule))
+    Ok(schedule)
+}
+
+fn framed_input() -> BufReader<StdinLock<'static>> {
+    BufReader::with_capacity(1 << 16, io::stdin().lock())
+}
+
+fn one() -> io::Result<()> {
+    io::stdout().lock().write_all(&key_sheet(&whole_input()?))
 }
 
 fn many() -> io::Result<()> {
-    let mut input = BufReader::with_capacity(1 << 16, io::stdin().lock());
+    let mut input = framed_input();
     let mut output = BufWriter::with_capacity(1 << 16, io::stdout().lock());
     while let Some(schedule) = read_frame(&mut input)? {
         write_frame(&mut output, &key_sheet(&schedule))?;
@@ -49,7 +57,7 @@ fn check(schedule: &[u8], totals: &mut Totals) {
     let mut checker = Checker::new();
     key_sheet_watched(schedule, &mut checker);
     totals.steps += checker.steps;
-    totals.most_routes = totals.most_routes.max(checker.most_routes);
+    totals.most_routes = totals.most_routes.max(checker.walks.most_routes);
     if !checker.failures.is_empty() {
         totals.failed += 1;
         println!("schedule {} (from 0):", totals.schedules);
@@ -80,16 +88,14 @@ fn none_yet() -> Totals {
 }
 
 fn check_one() -> io::Result<()> {
-    let mut schedule = Vec::new();
-    io::stdin().lock().read_to_end(&mut schedule)?;
     let mut totals = none_yet();
-    check(&schedule, &mut totals);
+    check(&whole_input()?, &mut totals);
     report(&totals);
     Ok(())
 }
 
 fn check_many() -> io::Result<()> {
-    let mut input = BufReader::with_capacity(1 << 16, io::stdin().lock());
+    let mut input = framed_input();
     let mut totals = none_yet();
     while let Some(schedule) = read_frame(&mut input)? {
         check(&schedule, &mut totals);
