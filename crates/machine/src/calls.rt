@@ -1,5 +1,4 @@
 // The calls on a state: fresh, begin, step and counted steps. Each leaves the state as it came where it refuses.
-use crate::range;
 use crate::view;
 use nodes::place;
 use nodes::register;

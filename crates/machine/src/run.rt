@@ -1,5 +1,4 @@
 // Counted steps: the call behind an `S` line.
-use crate::range;
 use crate::view;
 use nodes::place;
 use rows::phase;

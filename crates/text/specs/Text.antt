@@ -7,7 +7,7 @@ use lib.Dec.{ltb, leb, eqb}
 use lib.ListN.{length, getD}
 use lib.Seq.{sets}
 use Rattle.keys.specs.Keys.{has}
-use Rattle.text.specs.declared.read.Number as Number
+use Rattle.text.specs.declared.Number as Number
 
 -- "Fields are parted by one tab"
 abbrev pub tab : ℕ
