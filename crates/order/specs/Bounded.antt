@@ -22,13 +22,14 @@ use Rattle.rules.specs.declared.answer.Step.{Step}
 use Rattle.rules.specs.declared.answer.StepReply as StepReply
 use Rattle.states.specs.Tests.{both, pick-by, pick}
 use Rattle.graph.specs.Cases.{Same, same, apart, compared}
-use Rattle.graph.specs.Count.{one, routes, routes-next, routes-upto, routes-grow}
+use Rattle.graph.specs.Count.{routes, routes-next, routes-upto, routes-grow}
 use Rattle.graph.specs.Graph.{summit}
+use Rattle.runs.specs.Calls.{Call, begins, steps, afterCall}
+use Rattle.runs.specs.Passes.{one, walkStarts, walkGoesOn, takesRoute, passedBy, passes, passed}
 use Rattle.order.specs.World.{cellsOf}
 use Rattle.order.specs.Bridge.{reads-route, thread-other}
 use Rattle.order.specs.Nodes.{after-nodes}
 use Rattle.order.specs.Invariant.{Invariant, fresh-kept, after-kept, begin-kept, step-kept}
-use Rattle.order.specs.Passes.{Call, begins, steps, afterCall, walkStarts, walkGoesOn, takesRoute, passedBy, passes, passed}
 use Rattle.order.specs.WalkRows.{leaves-off, walk-rises, walk-route, given-route}
 
 -- n routes are passed so far: no more than there are up to the walk register's, while the walk goes on

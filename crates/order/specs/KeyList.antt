@@ -6,7 +6,7 @@ use Prim.Native.Nat.{ℕ, zero, suc, _+_, _%_, _≤_, _<_}
 use native.Mathlib.Nat.{mod-eq-of-lt}
 use native.Mathlib.Omega.{arith}
 use lib.ListN.{getD, length, length-set, getD-replicate, List·getD-eq-default}
-use lib.Seq.{getD-set-other}
+use lib.Seq.{getD-set-same, getD-set-other}
 use Rattle.keys.specs.Keys.{has}
 use Rattle.keys.specs.Laws.{has-union, has-none}
 use Rattle.rules.specs.State.{zeroPlace, threadAt}
@@ -17,7 +17,8 @@ use Rattle.rules.specs.declared.state.Body.the-variants.{Base, Route}
 use Rattle.rules.specs.declared.state.Place.{Place}
 use Rattle.rules.specs.declared.state.State.{State}
 use Rattle.rules.specs.declared.list.Met.{Met}
-use Rattle.graph.specs.Cases.{is, is-same, is-some}
+use Rattle.states.specs.Lists.{each-replicate}
+use Rattle.graph.specs.Cases.{is, Same, same, apart, compared, is-same, is-some}
 use Rattle.graph.specs.Walk.{Cell, kid}
 use Rattle.graph.specs.Tree.{Tree, tip, fork, label, count, Shape, leaf, branch, Once, label-in, tip-count, Stands, top, inL, inR, stands}
 use Rattle.graph.specs.Graph.{summit, Good}
@@ -30,13 +31,13 @@ keysIn ks (tip n) j = has (ks n) j
 keysIn ks (fork n l r) j = keysIn ks l j || keysIn ks r j
 
 -- the walk at a node, by the answers to its three questions
-entering : ℕ → List Place → ℕ → Met → Bool → Bool → Body → Met
+unfoldable pub entering : ℕ → List Place → ℕ → Met → Bool → Bool → Body → Met
 entering d ps n m true b c = m
 entering d ps n m false true c = again m
 entering d ps n m false false (Base ks) = lists ks (meets (n % 128) m)
 entering d ps n m false false (Route k l r) = gather d ps r (gather d ps l (meets (n % 128) m))
 
-enters : (d : ℕ) (ps : List Place) (n : ℕ) (m : Met)
+pub enters : (d : ℕ) (ps : List Place) (n : ℕ) (m : Met)
     → gather (suc d) ps n m ≡ entering d ps n m (m .twice) (getD (m .seen) (n % 128) false) (getD ps (n % 128) zeroPlace .body)
 unfolding gather entering
 enters d ps n m = go (m .twice) (getD (m .seen) (n % 128) false) (getD ps (n % 128) zeroPlace .body)
@@ -74,6 +75,7 @@ record Gathered (ks : ℕ → ℕ) (t : Tree) (m m′ : Met) : Type 0 where
   twice : m′ .twice ≡ false
   room : length (m′ .seen) ≡ 128
   others : (x : ℕ) → count x t ≡ 0 → getD (m′ .seen) x false ≡ getD (m .seen) x false
+  met : (x : ℕ) → 1 ≤ count x t → getD (m′ .seen) x false ≡ true
   listed : (j : ℕ) → has (m′ .keys) j ≡ (has (m .keys) j || keysIn ks t j)
 
 -- what it needs
@@ -90,6 +92,11 @@ or-assoc false b c = refl
 met-seen : (n : ℕ) (m : Met) (x : ℕ) → n < summit → (x ≡ n → ⊥) → getD (meets (n % 128) m .seen) x false ≡ getD (m .seen) x false
 unfolding meets
 met-seen n m x l h = getD-set-other (m .seen) (n % 128) x true false (λ e. h (e ∙ mod-eq-of-lt l))
+
+met-now : (n : ℕ) (m : Met) (x : ℕ) → n < summit → length (m .seen) ≡ 128 → x ≡ n → getD (meets (n % 128) m .seen) x false ≡ true
+unfolding meets
+met-now n m x l r e =
+    rw (e, mod-eq-of-lt l) (getD-set-same (m .seen) n true false (omega (arith, r)))
 
 -- the walk goes deep enough: numbers of routes rise on the way down
 record Deep (w : World) (d : ℕ) (t : Tree) : Type 0 where
@@ -113,6 +120,7 @@ module _ (w : World) (ps : List Place) (at : (x : ℕ) → w .place x ≡ getD p
             twice = q .twice;
             room = length-set (m .seen) (n % 128) true ∙ q .room;
             others = λ x o. met-seen n m x l (λ z. omega (arith, is-same z));
+            met = λ x o. met-now n m x l (q .room) (is-some o);
             listed = λ j.
                 has-union (m .keys) ks j
                 ∙ ap (λ (c : Body). has (m .keys) j || has (keysOfBody c) j) (sym (ap (λ (p : Place). p .body) (at n) ∙ e));
@@ -160,6 +168,13 @@ module _ (w : World) (ps : List Place) (at : (x : ℕ) → w .place x ≡ getD p
             unseen = λ x j. met-seen n m x small (n-left x j) ∙ q .unseen x (omega arith);
           }
 
+      met-in : (z : ℕ) {k k′ : Met} → Stands z n l r → Gathered (keys w) l (meets (n % 128) m) k → Gathered (keys w) r k k′
+          → getD (k′ .seen) z false ≡ true
+      met-in z (top e) x y =
+          y .others z (omega (arith, o z, is-same e)) ∙ x .others z (omega (arith, o z, is-same e)) ∙ met-now n m z small (q .room) e
+      met-in z (inL j) x y = y .others z (omega (arith, o z)) ∙ x .met z j
+      met-in z (inR j) x y = y .met z j
+
       go : (c : Body) → getD ps n zeroPlace .body ≡ c → (Ready l (meets (n % 128) m) → Gathered (keys w) l (meets (n % 128) m) (gather d ps (label l) (meets (n % 128) m)))
           → ((k : Met) → Ready r k → Gathered (keys w) r k (gather d ps (label r) k)) → Gathered (keys w) (fork n l r) m (gather (suc d) ps n m)
       go (Base ks) e left right =
@@ -184,6 +199,7 @@ module _ (w : World) (ps : List Place) (at : (x : ℕ) → w .place x ≡ getD p
             room = gR .room;
             others = λ z j.
                 gR .others z (omega arith) ∙ gL .others z (omega arith) ∙ met-seen n m z small (λ v. omega (arith, is-same v));
+            met = λ z j. met-in z (stands j) gL gR;
             listed = λ j.
                 gR .listed j ∙ ap (λ (v : Bool). v || keysIn (keys w) r j) (gL .listed j)
                 ∙ or-assoc (has (m .keys) j) (keysIn (keys w) l j) (keysIn (keys w) r j);
@@ -253,22 +269,21 @@ module _ {s : State} (i : Invariant s) where
   pub root-tree : Root w
   root-tree = root-of (sound .good) last
 
+  inner : (x : ℕ) → 1 ≤ count x (root-tree .rest) → inTree w x
+  inner x j = omega (arith, root-tree .inside x)
+
+  pub rest-small : (x : ℕ) → 1 ≤ count x (root-tree .rest) → x < summit
+  rest-small x j = all-small w (sound .good) (root-tree .shape) (rw (root-tree .head) (sound .entry)) inner x j
+
   walked : Gathered (keys w) (root-tree .rest) unmet (reached s)
   unfolding reached unmet
   walked =
-      let t = root-tree .rest in
-      let inner : (x : ℕ) → 1 ≤ count x t → inTree w x = λ x j. omega (arith, root-tree .inside x) in
       subst (λ (n : ℕ). Gathered (keys w) (root-tree .rest) unmet (gather 129 (s .places) n unmet)) (root-tree .head)
       (gathers w (s .places) (λ x. refl)
       (λ x j r l k q. sound .good .rises x (record { hung = sound .good .grown x j; route = r }) l k q) (root-tree .shape)
-      (λ x j. (all-small w (sound .good) (root-tree .shape) (rw (root-tree .head) (sound .entry)) inner x j, inner x j))
+      (λ x j. (rest-small x j, inner x j))
       (λ y. omega (arith, sound .good .once y, root-tree .inside y)) 129 (record { some = omega arith; enough = λ r. omega arith }) unmet
-      (record {
-        twice = refl;
-        room = refl;
-        unseen = λ x j.
-            getD-replicate 128 x false false (all-small w (sound .good) (root-tree .shape) (rw (root-tree .head) (sound .entry)) inner x j);
-      }))
+      (record { twice = refl; room = refl; unseen = λ x j. getD-replicate 128 x false false (rest-small x j) }))
 
   -- the walk that lists keys meets no node twice
   pub reached-once : reached s .twice ≡ false
@@ -278,3 +293,15 @@ module _ {s : State} (i : Invariant s) where
   pub reached-keys : (j : ℕ) → has (reached s .keys) j ≡ keysIn (keys w) (root-tree .rest) j
   unfolding unmet
   reached-keys j = walked .listed j ∙ ap (λ (b : Bool). b || keysIn (keys w) (root-tree .rest) j) (has-none j)
+
+  -- it meets the nodes of the tree and no others
+  pub reached-met : (x : ℕ) → 1 ≤ count x (root-tree .rest) → getD (reached s .seen) x false ≡ true
+  reached-met x j = walked .met x j
+
+  pub reached-only : (x : ℕ) → getD (reached s .seen) x false ≡ true → 1 ≤ count x (root-tree .rest)
+  unfolding unmet
+  reached-only x e = go (compared (count x (root-tree .rest)) 0)
+    where
+      go : Same (count x (root-tree .rest)) 0 → 1 ≤ count x (root-tree .rest)
+      go (same z) = absurd (true≢false (sym e ∙ walked .others x z ∙ each-replicate (λ (b : Bool). b ≡ false) refl refl 128 x))
+      go (apart n) = omega arith

@@ -32,7 +32,7 @@ pub mod Invariant
 pub mod Stuck
 pub mod Search
 pub mod KeyList
+pub mod Reached
 pub mod Refusal
-pub mod Passes
 pub mod WalkRows
 pub mod Bounded

@@ -14,15 +14,11 @@ use Rattle.graph.specs.Cases.{Way, onto, off, way}
 use Rattle.graph.specs.Walk.{kid, by, Walk, walk-from, first, Below, itself, down, walk-below, below-from}
 use Rattle.graph.specs.Tree.{Through, through, sides-apart, kid-in}
 use Rattle.graph.specs.Graph.{summit}
+use Rattle.runs.specs.Holders.{Reaches, at, below}
 use Rattle.order.specs.World.{World, cell, inTree, worldOf, Sound}
 use Rattle.order.specs.Bridge.{place-at, reads-route, reads-key, reads-kid}
 use Rattle.order.specs.Walks.{summit-in, summit-at, root-next}
 use Rattle.order.specs.Invariant.{Invariant}
-
--- y is reached from x, going down both ways
-pub data Reaches (s : State) : ℕ → ℕ → Type 0 where
-  at : {x y : ℕ} → x ≡ y → Reaches s x y
-  below : (x : ℕ) (w : Bool) {y : ℕ} → Reaches s (childOn w (placeAt s x)) y → isRoute (placeAt s x) ≡ true → Reaches s x y
 
 module _ {s : State} (i : Invariant s) where
   abbrev w : World

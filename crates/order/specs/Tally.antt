@@ -16,6 +16,7 @@ use Rattle.rules.specs.declared.state.State.{State}
 use Rattle.rules.specs.declared.row.View.{View}
 use Rattle.rules.specs.declared.row.Plan.{Plan}
 use Rattle.states.specs.Phase.{Each, end, _then_, by-phase}
+use Rattle.order.specs.Bridge.{thread-after}
 
 -- 1 for a phase before the commit
 unfoldable pub early : ℕ → ℕ
@@ -106,3 +107,10 @@ pub after-tally : (s : State) (me : ℕ) → length (s .threads) ≡ 8 → me �
 unfolding after apply planOf viewOf viewBefore threadAt
 after-tally s me len l =
     omega (arith, tally (viewOf s me) .sum, searchers-set (s .threads) me (planOf (viewOf s me) .thread) (omega arith))
+
+-- so does it for the thread that takes it
+pub thread-tally : (s : State) (me : ℕ) → length (s .threads) ≡ 8 → me ≤ 7
+    → after s me .committed + early (threadAt (after s me) me .phase) ≡ s .committed + early (threadAt s me .phase)
+unfolding after apply planOf viewOf viewBefore
+thread-tally s me len l =
+    omega (arith, tally (viewOf s me) .sum, ap (λ (t : Thread). early (t .phase)) (thread-after s me len l))

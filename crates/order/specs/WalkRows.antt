@@ -21,13 +21,13 @@ use Rattle.states.specs.Tests.{both, pick}
 use Rattle.states.specs.Phase.{row-at, Each, end, _then_, by-phase}
 use Rattle.graph.specs.Walk.{kid}
 use Rattle.graph.specs.Graph.{summit}
+use Rattle.runs.specs.Passes.{walkStarts, walkGoesOn, takesRoute}
 use Rattle.order.specs.World.{World, cell, worldOf, Sound}
 use Rattle.order.specs.Stages.{Stage, RouteAt, Descending}
 use Rattle.order.specs.Bridge.{thread-after, thread-row, reads-route, reads-kid, reads-next}
 use Rattle.order.specs.Walks.{route-of}
 use Rattle.order.specs.AtPhase.{at-phase}
 use Rattle.order.specs.Invariant.{Invariant}
-use Rattle.order.specs.Passes.{walkStarts, walkGoesOn, takesRoute}
 
 -- a phase at which a walk goes on
 data Walking (p : ℕ) : Type 0 where

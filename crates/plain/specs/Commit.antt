@@ -24,6 +24,7 @@ use Rattle.graph.specs.Cases.{Same, same, apart, compared}
 use Rattle.graph.specs.Walk.{Cell, walks-meet}
 use Rattle.graph.specs.Tree.{count}
 use Rattle.graph.specs.Graph.{hung}
+use Rattle.runs.specs.Holders.{late}
 use Rattle.order.specs.World.{cellsOf, hold, valid, worldOf}
 use Rattle.order.specs.Stages.{Locked, Meets}
 use Rattle.order.specs.AtPhase.{at-phase}
@@ -31,7 +32,7 @@ use Rattle.order.specs.Bridge.{place-at, put-new, thread-other}
 use Rattle.order.specs.Walks.{held-in}
 use Rattle.order.specs.Ordered.{Ordered, quietPhase, Unmoved}
 use Rattle.order.specs.Nodes.{after-moved}
-use Rattle.plain.specs.Held.{late, keysAt, Held, inBase, inRetired, linking-of}
+use Rattle.plain.specs.Held.{keysAt, Held, inBase, inRetired, linking-of}
 use Rattle.plain.specs.Late.{late-same}
 use Rattle.plain.specs.Once.{leads, reaches}
 use Rattle.plain.specs.Steps.{next, held-on, held-back}

@@ -11,7 +11,7 @@ use Rattle.rules.specs.State.{zeroThread, fresh, placeAt, threadAt}
 use Rattle.rules.specs.Registers.{setOperation}
 use Rattle.rules.specs.Range.{inRange}
 use Rattle.rules.specs.Rows.{rows, row25, planOf, stuck}
-use Rattle.rules.specs.Step.{begun, beginOf, viewBefore, viewOf, apply, after, ends, replyOf, stepOf}
+use Rattle.rules.specs.Step.{begun, beginOf, viewBefore, viewOf, after, ends, replyOf, stepOf}
 use Rattle.rules.specs.declared.state.Settings.{Settings}
 use Rattle.rules.specs.declared.state.Thread.{Thread}
 use Rattle.rules.specs.declared.state.State.{State}
@@ -21,41 +21,31 @@ use Rattle.rules.specs.declared.answer.StepReply as StepReply
 use Rattle.states.specs.Tests.{pick-by}
 use Rattle.states.specs.Followed.{step-ends}
 use Rattle.graph.specs.Cases.{Same, same, apart, compared}
-use Rattle.order.specs.Bridge.{thread-me, thread-other, thread-row}
+use Rattle.runs.specs.Calls.{Call, begins, steps, afterCall, accepted, afterCalls}
+use Rattle.runs.specs.Log.{commitsNow, Entry, entryOf, logOf, Logged, past, replied, later, first}
+use Rattle.order.specs.Bridge.{thread-other, thread-row}
 use Rattle.order.specs.Fresh.{fresh-idle}
-use Rattle.order.specs.Tally.{early, searchers-set, after-tally}
+use Rattle.order.specs.Tally.{early, thread-tally}
 use Rattle.order.specs.Invariant.{Invariant, fresh-kept, begin-kept, step-kept}
-use Rattle.order.specs.Passes.{Call, begins, steps, afterCall}
-use Rattle.plain.specs.Plain.{commitsNow}
-use Rattle.plain.specs.Runs.{accepted, afterCalls}
 use Rattle.plain.specs.Registers.{step-same}
-use Rattle.plain.specs.Log.{Entry, entryOf, logOf, Outcome, takes, leaves, outcome}
-
--- e is in the log
-pub data Logged (e : Entry) : List Entry → Type 0 where
-  first : {l : List Entry} → Logged e (e ∷ l)
-  later : {d : Entry} {l : List Entry} → Logged e l → Logged e (d ∷ l)
-
--- a thread past its commit: phases 6 to 25
-abbrev pub past : Thread → Type 0
-past t = 6 ≤ t .phase
+use Rattle.plain.specs.Log.{Outcome, takes, leaves, outcome}
 
 -- at s and later at s′ the thread is past one commit
-record Waits (a b : Thread) : Type 0 where
+record Waits (n : ℕ) (a b : Thread) : Type 0 where
   before : past a
-  entry : entryOf a ≡ entryOf b
+  entry : entryOf n a ≡ entryOf n b
 
 -- a thread past its commit has it in the log, or was past it before
 data Sure (s : State) (t : ℕ) (b : Thread) (l : List Entry) : Type 0 where
-  logged : Logged (entryOf b) l → Sure s t b l
-  waited : Waits (threadAt s t) b → Sure s t b l
+  logged : Logged (entryOf t b) l → Sure s t b l
+  waited : Waits t (threadAt s t) b → Sure s t b l
 
 -- a begin on any thread
 begun-waits : {s : State} → Invariant s → (t u o k : ℕ) → past (threadAt (beginOf s u o k .state) t)
-    → Waits (threadAt s t) (threadAt (beginOf s u o k .state) t)
+    → Waits t (threadAt s t) (threadAt (beginOf s u o k .state) t)
 unfolding beginOf begun threadAt
 begun-waits {s} i t u o k =
-    let Q : Begin → Type 0 = λ b. past (threadAt (b .state) t) → Waits (threadAt s t) (threadAt (b .state) t) in
+    let Q : Begin → Type 0 = λ b. past (threadAt (b .state) t) → Waits t (threadAt s t) (threadAt (b .state) t) in
     pick-by Q (not (inRange s)) (λ e h. still h) λ r.
     pick-by Q (ltb 2 o) (λ e h. still h) λ a.
     pick-by Q (ltb 7 u) (λ e h. still h) λ b.
@@ -63,19 +53,19 @@ begun-waits {s} i t u o k =
     pick-by Q (not (eqb (threadAt s u .phase) 0)) (λ e h. still h) λ d.
     pick-by Q (leb 1000000 (s .begun)) (λ e h. still h) λ g h. go (compared t u) (ltb-false 7 u b) h
   where
-    still : {a : Thread} → past a → Waits a a
+    still : {a : Thread} → past a → Waits t a a
     still h = record { before = h; entry = refl }
 
     th : Thread
     th = setOperation o k (threadAt s u)
 
-    go : Same t u → u ≤ 7 → past (threadAt (begun s u o k) t) → Waits (threadAt s t) (threadAt (begun s u o k) t)
+    go : Same t u → u ≤ 7 → past (threadAt (begun s u o k) t) → Waits t (threadAt s t) (threadAt (begun s u o k) t)
     go (same e) l h =
         let q : threadAt (begun s u o k) t ≡ th = ap (threadAt (begun s u o k)) e ∙ getD-set-same (s .threads) u th zeroThread (omega (arith, i .threads)) in
         absurd (omega (arith, rw q at h))
     go (apart n) l h =
         let q : threadAt (begun s u o k) t ≡ threadAt s t = getD-set-other (s .threads) u t th zeroThread n in
-        record { before = rw q at h; entry = sym (ap entryOf q) }
+        record { before = rw q at h; entry = sym (ap (entryOf t) q) }
 
 -- a phase that is not early and not 0 is past the commit
 not-early : (p : ℕ) → early p ≡ 0 → (p ≡ 0 → ⊥) → 6 ≤ p
@@ -96,15 +86,14 @@ late-early p l = rw (lt-leb p 5 (omega arith)) (and-false (leb 1 p))
     and-false false = refl
 
 module _ {s : State} (i : Invariant s) {u : ℕ} (l : u ≤ 7) where
-  ended : threadAt s u .phase ≡ 25 → threadAt (after s u) u .phase ≡ 0
+  pub ended : threadAt s u .phase ≡ 25 → threadAt (after s u) u .phase ≡ 0
   unfolding after rows row25 viewOf viewBefore
   ended e =
       ap (λ (t : Thread). t .phase) (thread-row s u (i .threads) l 25 e)
 
   -- a step of the thread itself that does not commit
   step-waits : (threadAt s u .phase ≡ 0 → ⊥) → commitsNow s u ≡ false → past (threadAt (after s u) u)
-      → Waits (threadAt s u) (threadAt (after s u) u)
-  unfolding after apply threadAt
+      → Waits u (threadAt s u) (threadAt (after s u) u)
   step-waits n c h =
       let k = step-same s (i .threads) l
       (λ e. sym (ap (λ (b : Bool). b && placeAt s (threadAt s u .base) .valid) (eq-eqb (threadAt s u .phase) 5 e)) ∙ c)
@@ -112,22 +101,15 @@ module _ {s : State} (i : Invariant s) {u : ℕ} (l : u ≤ 7) where
       record {
         before =
             not-early (threadAt s u .phase)
-            (omega (
-              arith,
-              k .committed,
-              after-tally s u (i .threads) l,
-              searchers-set (s .threads) u (planOf (viewOf s u) .thread) (omega (arith, i .threads)),
-              late-early (threadAt (after s u) u .phase) h,
-              ap (λ (t : Thread). early (t .phase)) (thread-me s u (planOf (viewOf s u)) (i .threads) l),
-            )) n;
+            (omega (arith, k .committed, thread-tally s u (i .threads) l, late-early (threadAt (after s u) u .phase) h)) n;
         entry =
-            λ j. record { operation = sym (k .operation) j; key = sym (k .key) j; answer = sym (k .answer) j; number = sym (k .commit) j };
+            λ j. record { thread = u; operation = sym (k .operation) j; key = sym (k .key) j; answer = sym (k .answer) j; number = sym (k .commit) j };
       }
 
-  step-other : (t : ℕ) → (t ≡ u → ⊥) → past (threadAt (after s u) t) → Waits (threadAt s t) (threadAt (after s u) t)
+  step-other : (t : ℕ) → (t ≡ u → ⊥) → past (threadAt (after s u) t) → Waits t (threadAt s t) (threadAt (after s u) t)
   unfolding after
   step-other t n h =
-      let q = thread-other s u (planOf (viewOf s u)) t n in record { before = rw q at h; entry = sym (ap entryOf q) }
+      let q = thread-other s u (planOf (viewOf s u)) t n in record { before = rw q at h; entry = sym (ap (entryOf t) q) }
 
 -- the log of one more call has what it had
 add : {e : Entry} (d : Entry) {l : List Entry} (b : Bool) → Logged e l → Logged e (cond b (d ∷ l) l)
@@ -135,32 +117,35 @@ add d true m = later m
 add d false m = m
 
 -- a thread is past the commit through a call
-through : {a b c : Thread} → Waits a b → Waits b c → Waits a c
+through : {n : ℕ} {a b c : Thread} → Waits n a b → Waits n b c → Waits n a c
 through x y = record { before = x .before; entry = x .entry ∙ y .entry }
 
-call-kept : {s : State} → Invariant s → (c : Call) → Invariant (afterCall s c)
+pub call-kept : {s : State} → Invariant s → (c : Call) → Invariant (afterCall s c)
 unfolding afterCall
 call-kept i (begins t o k) = begin-kept i t o k
 call-kept i (steps t) = step-kept i t
 
 -- a step of thread u, seen from thread t
-step-sure : {s : State} → Invariant s → (t u : ℕ) (b : Thread) (l : List Entry) → Waits (threadAt (stepOf s u .state) t) b → Outcome s u
-    → Sure s t b (cond (accepted s u && commitsNow s u) (entryOf (threadAt (after s u) u) ∷ l) l)
-step-sure {s} i t u b l w (leaves a e) = waited (subst (λ (z : State). Waits (threadAt z t) b) e w)
+step-sure : {s : State} → Invariant s → (t u : ℕ) (b : Thread) (l : List Entry) → Waits t (threadAt (stepOf s u .state) t) b → Outcome s u
+    → Sure s t b (cond (accepted s u && commitsNow s u) (entryOf u (threadAt (after s u) u) ∷ l) l)
+step-sure {s} i t u b l w (leaves a e) = waited (subst (λ (z : State). Waits t (threadAt z t) b) e w)
 step-sure {s} i t u b l w (takes m n a e) = thread (compared t u)
   where
-    w′ : Waits (threadAt (after s u) t) b
-    w′ = subst (λ (z : State). Waits (threadAt z t) b) e w
+    w′ : Waits t (threadAt (after s u) t) b
+    w′ = subst (λ (z : State). Waits t (threadAt z t) b) e w
 
-    mine : t ≡ u → Waits (threadAt (after s u) u) b → (d : Bool) → commitsNow s u ≡ d → Sure s t b (cond d (entryOf (threadAt (after s u) u) ∷ l) l)
-    mine q v true d = logged (subst (λ (z : Entry). Logged z (entryOf (threadAt (after s u) u) ∷ l)) (v .entry) first)
-    mine q v false d = waited (subst (λ (z : ℕ). Waits (threadAt s z) b) (sym q) (through (step-waits i m n d (v .before)) v))
+    mine : t ≡ u → Waits u (threadAt (after s u) u) b → (d : Bool) → commitsNow s u ≡ d → Sure s t b (cond d (entryOf u (threadAt (after s u) u) ∷ l) l)
+    mine q v true d =
+        logged
+        (subst (λ (z : ℕ). Logged (entryOf z b) (entryOf u (threadAt (after s u) u) ∷ l)) (sym q)
+        (subst (λ (z : Entry). Logged z (entryOf u (threadAt (after s u) u) ∷ l)) (v .entry) first))
+    mine q v false d = waited (subst (λ (z : ℕ). Waits z (threadAt s z) b) (sym q) (through (step-waits i m n d (v .before)) v))
 
-    thread : Same t u → Sure s t b (cond (accepted s u && commitsNow s u) (entryOf (threadAt (after s u) u) ∷ l) l)
+    thread : Same t u → Sure s t b (cond (accepted s u && commitsNow s u) (entryOf u (threadAt (after s u) u) ∷ l) l)
     thread (apart k) = waited (through (step-other i m t k (w′ .before)) w′)
     thread (same q) =
-        subst (λ (z : Bool). Sure s t b (cond (z && commitsNow s u) (entryOf (threadAt (after s u) u) ∷ l) l)) (sym a)
-        (mine q (subst (λ (z : ℕ). Waits (threadAt (after s u) z) b) q w′) (commitsNow s u) refl)
+        subst (λ (z : Bool). Sure s t b (cond (z && commitsNow s u) (entryOf u (threadAt (after s u) u) ∷ l) l)) (sym a)
+        (mine q (subst (λ (z : ℕ). Waits z (threadAt (after s u) z) b) q w′) (commitsNow s u) refl)
 
 -- whoever is past its commit after some calls has it in their log, or was past it before
 sure : {s : State} → Invariant s → (t : ℕ) (cs : List Call) → past (threadAt (afterCalls s cs) t) → Sure s t (threadAt (afterCalls s cs) t) (logOf s cs)
@@ -182,8 +167,8 @@ sure {s} i t (steps u ∷ cs) h = go (sure (call-kept i (steps u)) t cs h)
     L : List Entry
     L = logOf (stepOf s u .state) cs
 
-    go : Sure (stepOf s u .state) t b L → Sure s t b (cond (accepted s u && commitsNow s u) (entryOf (threadAt (after s u) u) ∷ L) L)
-    go (logged m) = logged (add (entryOf (threadAt (after s u) u)) (accepted s u && commitsNow s u) m)
+    go : Sure (stepOf s u .state) t b L → Sure s t b (cond (accepted s u && commitsNow s u) (entryOf u (threadAt (after s u) u) ∷ L) L)
+    go (logged m) = logged (add (entryOf u (threadAt (after s u) u)) (accepted s u && commitsNow s u) m)
     go (waited w) = step-sure i t u b L w (outcome s u)
 
 -- what a step that ends the operation replies with
@@ -209,28 +194,24 @@ ending s t a n =
     goes : {m : ℕ} → StepReply.the-variants.Goes m ≡ StepReply.the-variants.Ends a n → ⊥
     goes z = let q : _≡_ {A = ℕ} 0 1 = cc in omega arith
 
--- after any calls from fresh, the answer and the number that an ended operation replies with are those of its commit in the log
-pub run-ended : (c : Settings) (cs : List Call) (t a n : ℕ) → stepOf (afterCalls (fresh c) cs) t .reply ≡ StepReply.the-variants.Ends a n
-    → Logged
-    (record {
-      operation = threadAt (afterCalls (fresh c) cs) t .operation;
-      key = threadAt (afterCalls (fresh c) cs) t .key;
-      answer = a;
-      number = n;
-    }) (logOf (fresh c) cs)
-run-ended c cs t a n e = go (sure (fresh-kept c) t cs (omega (arith, step-ends s t a n e)))
-  where
-    s : State
-    s = afterCalls (fresh c) cs
+module _ (c : Settings) (cs : List Call) where
+  abbrev s : State
+  s = afterCalls (fresh c) cs
 
-    k : Ending s t a n
-    k = ending s t a n e
+  -- after any calls from fresh, an operation that is committed and not yet ended is in the log as its registers say
+  pub run-committed : (t : ℕ) → t ≤ 7 → past (threadAt (afterCalls (fresh c) cs) t)
+      → Logged (entryOf t (threadAt (afterCalls (fresh c) cs) t)) (logOf (fresh c) cs)
+  run-committed t l h = go (sure (fresh-kept c) t cs h)
+    where
+      go : Sure (fresh c) t (threadAt s t) (logOf (fresh c) cs) → Logged (entryOf t (threadAt s t)) (logOf (fresh c) cs)
+      go (logged m) = m
+      go (waited w) = absurd (omega (arith, w .before, ap (λ (z : Thread). z .phase) (fresh-idle c t l)))
 
-    go : Sure (fresh c) t (threadAt s t) (logOf (fresh c) cs)
-        → Logged (record { operation = threadAt s t .operation; key = threadAt s t .key; answer = a; number = n }) (logOf (fresh c) cs)
-    go (logged m) =
-        subst (λ (z : ℕ). Logged (record { operation = threadAt s t .operation; key = threadAt s t .key; answer = a; number = z }) (logOf (fresh c) cs)) (k .number)
-        (subst
-        (λ (z : ℕ). Logged (record { operation = threadAt s t .operation; key = threadAt s t .key; answer = z; number = threadAt s t .commit }) (logOf (fresh c) cs))
-        (k .answer) m)
-    go (waited w) = absurd (omega (arith, w .before, ap (λ (z : Thread). z .phase) (fresh-idle c t (k .thread))))
+  -- and one that ends replies with what the log says
+  pub run-ended : (t a n : ℕ) → stepOf (afterCalls (fresh c) cs) t .reply ≡ StepReply.the-variants.Ends a n
+      → Logged (replied t (threadAt (afterCalls (fresh c) cs) t) a n) (logOf (fresh c) cs)
+  run-ended t a n e =
+      let k = ending s t a n e in
+      subst (λ (z : ℕ). Logged (replied t (threadAt s t) a z) (logOf (fresh c) cs)) (k .number)
+      (subst (λ (z : ℕ). Logged (replied t (threadAt s t) z (threadAt s t .commit)) (logOf (fresh c) cs)) (k .answer)
+      (run-committed t (k .thread) (omega (arith, step-ends s t a n e))))

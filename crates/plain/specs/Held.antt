@@ -1,5 +1,5 @@
 -- The keys that a state holds: those of the bases of the tree, and of the base registers of threads in phases 20 to 23.
-use mathlib.Core.Bool.{Bool, true, false, _&&_}
+use mathlib.Core.Bool.{true, false}
 use mathlib.Core.Path.{_≡_}
 use Prim.Native.Nat.{ℕ, _≤_}
 use native.Mathlib.Omega.{arith}
@@ -13,14 +13,11 @@ use Rattle.rules.specs.declared.state.State.{State}
 use Rattle.states.specs.Tests.{both}
 use Rattle.graph.specs.Cases.{Same, same, apart, compared}
 use Rattle.graph.specs.Tree.{count}
+use Rattle.runs.specs.Holders.{late}
 use Rattle.order.specs.World.{World, cellsOf, worldOf}
 use Rattle.order.specs.Stages.{Linking, Stage}
 use Rattle.order.specs.AtPhase.{at-phase}
 use Rattle.order.specs.Ordered.{Ordered}
-
--- a phase between the splice and the link
-abbrev pub late : ℕ → Bool
-late p = leb 20 p && leb p 23
 
 -- the keys of node x
 abbrev pub keysAt : State → ℕ → ℕ

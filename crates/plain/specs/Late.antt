@@ -15,9 +15,9 @@ use Rattle.rules.specs.declared.row.View.{View}
 use Rattle.rules.specs.declared.row.Plan.{Plan}
 use Rattle.states.specs.Tests.{pick}
 use Rattle.states.specs.Phase.{Each, end, _then_, by-phase}
+use Rattle.runs.specs.Holders.{late}
 use Rattle.order.specs.Bridge.{thread-after, thread-row}
 use Rattle.order.specs.Ordered.{quietPhase}
-use Rattle.plain.specs.Held.{late}
 
 -- the thread is late after the row as before, with the same base
 record Stays (n : ℕ) (t t′ : Thread) : Type 0 where

@@ -6,9 +6,12 @@ pub mod Once
 pub mod Commit
 pub mod Plain
 pub mod Listed
+pub mod Counted
 pub mod Runs
 pub mod Registers
 pub mod Log
 pub mod Ended
+pub mod Begun
+pub mod Quiet
+pub mod CountedSteps
 pub mod Demand
-pub mod Instance

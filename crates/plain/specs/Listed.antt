@@ -16,11 +16,12 @@ use Rattle.graph.specs.Cases.{Same, same, apart, compared, is-same, is-apart, i
 use Rattle.graph.specs.Walk.{Cell}
 use Rattle.graph.specs.Tree.{Tree, fork, count, Shape, leaf, branch, Stands, top, inL, inR, stands}
 use Rattle.graph.specs.Graph.{summit}
+use Rattle.runs.specs.Holders.{late}
 use Rattle.order.specs.World.{World, cell, cellsOf, keys, worldOf}
 use Rattle.order.specs.Bridge.{place-at}
 use Rattle.order.specs.Walks.{summit-at}
 use Rattle.order.specs.KeyList.{keysIn, root-tree, reached-keys}
-use Rattle.plain.specs.Held.{late, keysAt, Held, inBase, inRetired, linking-of}
+use Rattle.plain.specs.Held.{keysAt, Held, inBase, inRetired, linking-of}
 use Rattle.plain.specs.Plain.{Plain}
 
 -- j is a key of the base register of one of the first n threads that is in phases 20 to 23
@@ -115,8 +116,10 @@ module _ {s : State} {p : ℕ} (x : Plain s p) (j : ℕ) where
       let k = find (cell w) (keys w) j (root-tree (x .inv) .shape) (sym (reached-keys (x .inv) j) ∙ h) in
       inBase (k .base) (omega (arith, root-tree (x .inv) .inside (k .base), k .inside)) (k .kind) (k .key)
 
-  held-listed : (b : ℕ) → 1 ≤ count b (x .inv .nodes .tree) → cellsOf s b .route ≡ false → has (keysAt s b) j ≡ true → has (reached s .keys) j ≡ true
-  held-listed b a f h = reached-keys (x .inv) j ∙ found (cell w) (keys w) j b (root-tree (x .inv) .shape) inside f h
+  -- a base of the tree with a key stands under the root pointer
+  pub under-root : (b : ℕ) → 1 ≤ count b (x .inv .nodes .tree) → cellsOf s b .route ≡ false → has (keysAt s b) j ≡ true
+      → 1 ≤ count b (root-tree (x .inv) .rest)
+  under-root b a f h = omega (arith, root-tree (x .inv) .inside b, is-apart not-summit, is-apart not-last)
     where
       not-summit : b ≡ summit → ⊥
       not-summit q = true≢false (sym (summit-at (x .inv .nodes .safe .sound) .route) ∙ ap (λ (y : ℕ). cellsOf s y .route) (sym q) ∙ f)
@@ -126,8 +129,8 @@ module _ {s : State} {p : ℕ} (x : Plain s p) (j : ℕ) where
           true≢false (sym h ∙ ap (λ (y : ℕ). has (keysAt s y) j) q
           ∙ ap (λ (y : Place). has (keysOf y) j) (List·getD-eq-default (s .places) zeroPlace {n = 129} (omega (arith, x .inv .places))) ∙ has-none j)
 
-      inside : 1 ≤ count b (root-tree (x .inv) .rest)
-      inside = omega (arith, root-tree (x .inv) .inside b, is-apart not-summit, is-apart not-last)
+  held-listed : (b : ℕ) → 1 ≤ count b (x .inv .nodes .tree) → cellsOf s b .route ≡ false → has (keysAt s b) j ≡ true → has (reached s .keys) j ≡ true
+  held-listed b a f h = reached-keys (x .inv) j ∙ found (cell w) (keys w) j b (root-tree (x .inv) .shape) (under-root b a f h) f h
 
   -- the plain set has the keys of the key list and those of the retired bases of threads in phases 20 to 23
   pub plain-keys : has p j ≡ (has (reached s .keys) j || retired s j)

@@ -2,7 +2,7 @@
 use mathlib.Core.Bool.{Bool, true, false, cond, not, _&&_}
 use mathlib.Core.List.{List, [], _∷_}
 use mathlib.Core.Path.{_≡_, refl, sym, ap, ap₂, _∙_, subst, subst₂}
-use Prim.Native.Nat.{ℕ, _+_, _≤_}
+use Prim.Native.Nat.{ℕ, _≤_}
 use lib.Dec.{ltb, leb, eqb}
 use borrow.Author.Tests.{ltb-false, eqb-true, eqb-false, eq-eqb}
 use Rattle.keys.specs.Keys.{has}
@@ -14,50 +14,20 @@ use Rattle.rules.specs.Step.{begun, beginOf, viewOf, after, ends, replyOf, step
 use Rattle.rules.specs.Answers.{stepNumber}
 use Rattle.rules.specs.declared.state.Settings.{Settings}
 use Rattle.rules.specs.declared.state.Place.{Place}
-use Rattle.rules.specs.declared.state.Thread.{Thread}
 use Rattle.rules.specs.declared.state.State.{State}
 use Rattle.rules.specs.declared.answer.Begin.{Begin}
 use Rattle.rules.specs.declared.answer.Step.{Step}
 use Rattle.rules.specs.declared.answer.StepReply as StepReply
 use Rattle.states.specs.Tests.{both, pick-by, pick}
 use Rattle.graph.specs.Cases.{Same, same, apart, compared}
+use Rattle.runs.specs.Calls.{Call, begins, steps, afterCall, accepted}
+use Rattle.runs.specs.Log.{commitsNow, Entry, entryOf, logOf, playLog, Right}
 use Rattle.order.specs.AtPhase.{at-phase}
 use Rattle.order.specs.Bridge.{place-at}
-use Rattle.order.specs.Passes.{Call, begins, steps, afterCall}
 use Rattle.plain.specs.Commit.{agrees}
-use Rattle.plain.specs.Plain.{Plain, commitsNow, plainThen, fresh-plain}
-use Rattle.plain.specs.Runs.{accepted, plainCall, plainAfter, call-plain}
+use Rattle.plain.specs.Plain.{Plain, plainThen, fresh-plain}
+use Rattle.plain.specs.Runs.{plainCall, plainAfter, call-plain}
 use Rattle.plain.specs.Registers.{commit-done, step-same, end-same}
-
--- a commit: the operation, its key, the answer and the commit number
-pub record Entry : Type 0 where
-  pub operation : ℕ
-  pub key : ℕ
-  pub answer : ℕ
-  pub number : ℕ
-
--- what a thread's registers say of its commit
-abbrev pub entryOf : Thread → Entry
-entryOf t = record { operation = t .operation; key = t .key; answer = t .answer; number = t .commit }
-
--- the commits of some calls, in their order
-unfoldable pub logOf : State → List Call → List Entry
-logOf s [] = []
-logOf s (begins t o k ∷ cs) = logOf (afterCall s (begins t o k)) cs
-logOf s (steps t ∷ cs) =
-    cond (accepted s t && commitsNow s t) (entryOf (threadAt (after s t) t) ∷ logOf (afterCall s (steps t)) cs)
-    (logOf (afterCall s (steps t)) cs)
-
--- the plain set p after some commits
-unfoldable pub playLog : ℕ → List Entry → ℕ
-playLog p [] = p
-playLog p (e ∷ l) = playLog (keysAfter (e .operation) p (e .key)) l
-
--- from the plain set p and n commits on, each answer is that of the plain set and the numbers count on
-abbrev pub Right : ℕ → ℕ → List Entry → Type 0
-Right p n [] = Unit {0}
-Right p n (e ∷ l) =
-    (e .answer ≡ answerOf (e .operation) (has p (e .key))) × (e .number ≡ n + 1) × Right (keysAfter (e .operation) p (e .key)) (n + 1) l
 
 -- an accepted step, or a refused one that leaves the state
 pub data Outcome (s : State) (t : ℕ) : Type 0 where
@@ -95,7 +65,7 @@ move l e f x = subst₂ (λ (a b : ℕ). Right a b l) e f x
 
 module _ {s : State} {p : ℕ} (x : Plain s p) (t : ℕ) (L : List Entry) where
   abbrev Goal : Bool → Type 0
-  Goal b = Right p (s .committed) (cond b (entryOf (threadAt (after s t) t) ∷ L) L)
+  Goal b = Right p (s .committed) (cond b (entryOf t (threadAt (after s t) t) ∷ L) L)
 
   -- the count where the step does not commit
   count-stays : t ≤ 7 → commitsNow s t ≡ false → after s t .committed ≡ s .committed
@@ -132,12 +102,12 @@ module _ {s : State} {p : ℕ} (x : Plain s p) (t : ℕ) (L : List Entry) where
   not-then c = ap (λ (b : Bool). cond b (keysAfter (threadAt s t .operation) p (threadAt s t .key)) p) c
 
   -- the plain set by the log
-  step-log : playLog (plainCall s (steps t) p) L ≡ playLog p (cond (accepted s t && commitsNow s t) (entryOf (threadAt (after s t) t) ∷ L) L)
+  step-log : playLog (plainCall s (steps t) p) L ≡ playLog p (cond (accepted s t && commitsNow s t) (entryOf t (threadAt (after s t) t) ∷ L) L)
   unfolding plainCall plainThen playLog
   step-log = go (outcome s t)
     where
       taken : t ≤ 7 → (b : Bool) → commitsNow s t ≡ b
-          → playLog (cond b (keysAfter (threadAt s t .operation) p (threadAt s t .key)) p) L ≡ playLog p (cond b (entryOf (threadAt (after s t) t) ∷ L) L)
+          → playLog (cond b (keysAfter (threadAt s t .operation) p (threadAt s t .key)) p) L ≡ playLog p (cond b (entryOf t (threadAt (after s t) t) ∷ L) L)
       taken l false c = refl
       taken l true c =
           let q = both (eqb (threadAt s t .phase) 5) (placeAt s (threadAt s t .base) .valid) c in
@@ -146,7 +116,7 @@ module _ {s : State} {p : ℕ} (x : Plain s p) (t : ℕ) (L : List Entry) where
 
       go : Outcome s t
           → playLog (cond (accepted s t) (cond (commitsNow s t) (keysAfter (threadAt s t .operation) p (threadAt s t .key)) p) p) L
-          ≡ playLog p (cond (accepted s t && commitsNow s t) (entryOf (threadAt (after s t) t) ∷ L) L)
+          ≡ playLog p (cond (accepted s t && commitsNow s t) (entryOf t (threadAt (after s t) t) ∷ L) L)
       go (leaves a e) = rw a
       go (takes l n a e) = rw a (taken l (commitsNow s t) refl)
 

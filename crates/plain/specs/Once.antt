@@ -8,9 +8,10 @@ use Rattle.rules.specs.declared.state.State.{State}
 use Rattle.graph.specs.Walk.{by, Walk, walks-meet}
 use Rattle.graph.specs.Tree.{count}
 use Rattle.graph.specs.Graph.{summit}
+use Rattle.runs.specs.Holders.{late}
 use Rattle.order.specs.World.{cellsOf, hold, worldOf}
 use Rattle.order.specs.Ordered.{Ordered}
-use Rattle.plain.specs.Held.{late, keysAt, linking-of}
+use Rattle.plain.specs.Held.{keysAt, linking-of}
 
 module _ {s : State} (r : Ordered s) (j : ℕ) where
   -- a key of a base of the tree leads to it; a key of a retired base leads to its neighbour

@@ -18,11 +18,13 @@ use Rattle.rules.specs.declared.state.Body.{Body}
 use Rattle.rules.specs.declared.state.Thread.{Thread}
 use Rattle.rules.specs.declared.state.State.{State}
 use Rattle.graph.specs.Cases.{Same, same, apart, compared}
+use Rattle.runs.specs.Log.{commitsNow}
+use Rattle.runs.specs.Holders.{late}
 use Rattle.order.specs.Ordered.{Ordered, quietPhase}
 use Rattle.order.specs.Nodes.{after-moved}
 use Rattle.order.specs.Fresh.{fresh-nodes, fresh-body, fresh-idle}
 use Rattle.order.specs.Invariant.{Invariant, fresh-kept, after-kept, begun-safe, begun-kept}
-use Rattle.plain.specs.Held.{late, keysAt, Held, inBase, inRetired}
+use Rattle.plain.specs.Held.{keysAt, Held, inBase, inRetired}
 use Rattle.plain.specs.Steps.{next, held-on, held-back, split-on, split-back}
 use Rattle.plain.specs.StepsJoin.{splice-on, splice-back, link-on, link-back}
 use Rattle.plain.specs.Commit.{retry-on, retry-back, commit-on, commit-back}
@@ -34,9 +36,6 @@ pub record Plain (s : State) (p : ℕ) : Type 0 where
   pub back : (j : ℕ) → has p j ≡ true → Held (inv .nodes) j
 
 -- the next step of thread t commits
-abbrev pub commitsNow : State → ℕ → Bool
-commitsNow s t = eqb (threadAt s t .phase) 5 && placeAt s (threadAt s t .base) .valid
-
 -- the plain set after thread t's step: at a commit the operation is done on it
 unfoldable pub plainThen : State → ℕ → ℕ → ℕ
 plainThen s t p = cond (commitsNow s t) (keysAfter (threadAt s t .operation) p (threadAt s t .key)) p

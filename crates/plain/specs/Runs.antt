@@ -1,5 +1,5 @@
 -- Runs from fresh: the commits in their order answer as a plain set does, and the keys are the plain set's, each once.
-use mathlib.Core.Bool.{Bool, true, cond, not}
+use mathlib.Core.Bool.{true, cond, not}
 use mathlib.Core.List.{List, [], _∷_}
 use mathlib.Core.Path.{_≡_, refl}
 use Prim.Native.Nat.{ℕ}
@@ -16,23 +16,15 @@ use Rattle.rules.specs.declared.answer.Begin.{Begin}
 use Rattle.rules.specs.declared.answer.Step.{Step}
 use Rattle.rules.specs.declared.answer.StepReply as StepReply
 use Rattle.states.specs.Tests.{pick-by, pick}
-use Rattle.order.specs.Passes.{Call, begins, steps, afterCall}
+use Rattle.runs.specs.Calls.{Call, begins, steps, afterCall, afterCalls, accepted}
 use Rattle.plain.specs.Plain.{Plain, plainThen, fresh-plain, begun-plain, after-plain}
-
--- the step of thread t is accepted
-abbrev pub accepted : State → ℕ → Bool
-accepted s t = eqb (stepNumber (stepOf s t .reply)) 0
 
 -- the plain set after a call: only an accepted step that commits changes it
 unfoldable pub plainCall : State → Call → ℕ → ℕ
 plainCall s (begins t o k) p = p
 plainCall s (steps t) p = cond (accepted s t) (plainThen s t p) p
 
--- the state and the plain set after some calls
-unfoldable pub afterCalls : State → List Call → State
-afterCalls s [] = s
-afterCalls s (c ∷ cs) = afterCalls (afterCall s c) cs
-
+-- the plain set after some calls
 unfoldable pub plainAfter : State → List Call → ℕ → ℕ
 plainAfter s [] p = p
 plainAfter s (c ∷ cs) p = plainAfter (afterCall s c) cs (plainCall s c p)

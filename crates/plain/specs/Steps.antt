@@ -17,6 +17,7 @@ use Rattle.graph.specs.Cases.{Same, same, apart, compared, Test, holds, fails, 
 use Rattle.graph.specs.Walk.{Cell}
 use Rattle.graph.specs.Tree.{Tree, tip, fork, count, kid-in, Stands, top, inL, inR, stands}
 use Rattle.graph.specs.Graph.{hung}
+use Rattle.runs.specs.Holders.{late}
 use Rattle.order.specs.World.{cellsOf, worldOf}
 use Rattle.order.specs.Stages.{Splitting}
 use Rattle.order.specs.AtPhase.{at-phase}
@@ -24,7 +25,7 @@ use Rattle.order.specs.Bridge.{thread-other}
 use Rattle.order.specs.Ordered.{Ordered, quietPhase, Unmoved}
 use Rattle.order.specs.Effects.{Bare, Replaces, Moved}
 use Rattle.order.specs.Nodes.{after-moved}
-use Rattle.plain.specs.Held.{late, keysAt, Held, inBase, inRetired, linking-of}
+use Rattle.plain.specs.Held.{keysAt, Held, inBase, inRetired, linking-of}
 use Rattle.plain.specs.Late.{late-same, late-base, late-split}
 
 module _ {s : State} (r : Ordered s) (len : length (s .threads) ≡ 8) (room : length (s .places) ≡ 128) {me : ℕ} (l : me ≤ 7) where

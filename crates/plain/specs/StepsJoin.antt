@@ -11,13 +11,14 @@ use Rattle.rules.specs.Step.{after}
 use Rattle.rules.specs.declared.state.State.{State}
 use Rattle.graph.specs.Cases.{Same, same, apart, compared, is-same, is-apart, is-some}
 use Rattle.graph.specs.Tree.{tip, count, kid-in}
+use Rattle.runs.specs.Holders.{late}
 use Rattle.order.specs.World.{cellsOf, worldOf}
 use Rattle.order.specs.Stages.{Dying, Linking}
 use Rattle.order.specs.AtPhase.{at-phase}
 use Rattle.order.specs.Ordered.{Ordered}
 use Rattle.order.specs.Effects.{Replaces, Drops}
 use Rattle.order.specs.Nodes.{after-moved}
-use Rattle.plain.specs.Held.{late, keysAt, Held, inBase, inRetired}
+use Rattle.plain.specs.Held.{keysAt, Held, inBase, inRetired}
 use Rattle.plain.specs.Late.{late-splice, late-link}
 use Rattle.plain.specs.Steps.{next, has-on, has-back, base-on, base-back, other-on, other-back, stays-in, comes-in, From, old, new, whence}
 

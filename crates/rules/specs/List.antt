@@ -1,12 +1,11 @@
 -- "Reachable bases are listed from the left child down to each leaf, then the right."
-use mathlib.Core.Bool.{Bool, true, false, cond, not}
+use mathlib.Core.Bool.{true, false, cond, not}
 use mathlib.Core.List.{List}
 use Prim.Native.Nat.{ℕ, zero, suc, _-_, _%_}
 use lib.ListN.{getD, set, replicate}
 use Rattle.keys.specs.Keys.{union}
 use Rattle.rules.specs.State.{zeroPlace}
 use Rattle.rules.specs.Range.{inRange}
-use Rattle.rules.specs.declared.state.Body.{Body}
 use Rattle.rules.specs.declared.state.Body.the-variants.{Base, Route}
 use Rattle.rules.specs.declared.state.Place.{Place}
 use Rattle.rules.specs.declared.state.State.{State}

@@ -1,8 +1,8 @@
 -- What rows ask of a place, and what they do to one.
-use mathlib.Core.Bool.{Bool, true, false, cond, not, _&&_}
+use mathlib.Core.Bool.{Bool, true, false, cond, not}
 use Prim.Native.Nat.{ℕ, _+_, _-_, min}
 use lib.Dec.{ltb, eqb}
-use Rattle.keys.specs.Keys.{has, with, without}
+use Rattle.keys.specs.Keys.{with, without}
 use Rattle.rules.specs.State.{none, nobody, zeroStatistics, topStatistics}
 use Rattle.rules.specs.declared.state.Settings.{Settings}
 use Rattle.rules.specs.declared.state.Lock.{Lock}

@@ -1,8 +1,8 @@
 -- "A state is in range when every number is inside the above, statistics are within their stops, answers 0 or 1, commit numbers at most
 -- 1,000,000, root and route children are made nodes, and committed ≤ begun."
-use mathlib.Core.Bool.{Bool, true, cond, not, _&&_, _||_}
+use mathlib.Core.Bool.{Bool, true, _&&_, _||_}
 use mathlib.Core.List.{List, [], _∷_}
-use Prim.Native.Nat.{ℕ, zero, suc}
+use Prim.Native.Nat.{ℕ}
 use lib.Dec.{ltb, leb, eqb}
 use Rattle.rules.specs.State.{none, nobody, topStatistics}
 use Rattle.rules.specs.declared.state.Settings.{Settings}

@@ -1,12 +1,11 @@
 -- "The state": none, the records as they are when fresh, and reading a place or a thread by its number.
-use mathlib.Core.Bool.{Bool, true, false}
-use mathlib.Core.List.{List}
+use mathlib.Core.Bool.{true, false}
 use Prim.Native.Nat.{ℕ, _%_}
 use lib.ListN.{getD, set, replicate}
 use Rattle.rules.specs.declared.state.Settings.{Settings}
 use Rattle.rules.specs.declared.state.Lock.{Lock}
 use Rattle.rules.specs.declared.state.Body.{Body}
-use Rattle.rules.specs.declared.state.Body.the-variants.{Base, Route}
+use Rattle.rules.specs.declared.state.Body.the-variants.{Base}
 use Rattle.rules.specs.declared.state.Place.{Place}
 use Rattle.rules.specs.declared.state.Thread.{Thread}
 use Rattle.rules.specs.declared.state.State.{State}

@@ -1,4 +1,4 @@
--- Runs of calls, and the routes that a thread's walk passes: "A walk runs from a step at phase 1, 9, 15 or 21 until its thread leaves phases 1
+-- The routes that a thread's walk passes: "A walk runs from a step at phase 1, 9, 15 or 21 until its thread leaves phases 1
 -- and 2, 9 and 10, 15 and 16, or 21 and 22; the routes that its walk register takes are those it passes through."
 use mathlib.Core.Bool.{Bool, cond, not, _&&_, _||_}
 use mathlib.Core.List.{List, [], _∷_}
@@ -6,20 +6,10 @@ use Prim.Native.Nat.{ℕ, _+_}
 use lib.Dec.{eqb}
 use Rattle.rules.specs.State.{placeAt, threadAt}
 use Rattle.rules.specs.Rows.{route}
-use Rattle.rules.specs.Step.{beginOf, after, stepOf}
+use Rattle.rules.specs.Step.{after, stepOf}
 use Rattle.rules.specs.Answers.{stepNumber}
 use Rattle.rules.specs.declared.state.State.{State}
-use Rattle.graph.specs.Count.{one}
-
--- a call: thread t begins operation o on key k, or takes one step
-pub data Call : Type 0 where
-  begins : (t o k : ℕ) → Call
-  steps : (t : ℕ) → Call
-
--- the state after a call, accepted or refused
-unfoldable pub afterCall : State → Call → State
-afterCall s (begins t o k) = beginOf s t o k .state
-afterCall s (steps t) = stepOf s t .state
+use Rattle.runs.specs.Calls.{Call, begins, steps, afterCall}
 
 -- a step at this phase starts a walk; goes on with one
 abbrev pub walkStarts : ℕ → Bool
@@ -27,6 +17,10 @@ walkStarts p = eqb p 1 || eqb p 9 || eqb p 15 || eqb p 21
 
 abbrev pub walkGoesOn : ℕ → Bool
 walkGoesOn p = eqb p 2 || eqb p 10 || eqb p 16 || eqb p 22
+
+-- 1 for true
+unfoldable pub one : Bool → ℕ
+one b = cond b 1 0
 
 -- thread t's walk register after its step is a route, and was given by the step: from 22 to 23 nothing changes
 unfoldable pub takesRoute : State → ℕ → Bool

@@ -1,0 +1,52 @@
+-- Demand 3, sentence by sentence: what is to hold after any calls from a fresh state.
+use mathlib.Core.Bool.{true, false}
+use mathlib.Core.List.{List}
+use mathlib.Core.Path.{_≡_}
+use Prim.Native.Nat.{ℕ, _≤_, _<_}
+use lib.ListN.{getD}
+use Rattle.keys.specs.Keys.{has}
+use Rattle.rules.specs.State.{fresh, placeAt, threadAt}
+use Rattle.rules.specs.Places.{isRoute, isBase, keysOf, routeKey, childOn}
+use Rattle.rules.specs.Range.{settingsInRange}
+use Rattle.rules.specs.Step.{stepOf}
+use Rattle.rules.specs.List.{reached, keyListOf}
+use Rattle.rules.specs.Answers.{stepNumber, listNumber}
+use Rattle.rules.specs.declared.state.Settings.{Settings}
+use Rattle.rules.specs.declared.state.State.{State}
+use Rattle.rules.specs.declared.answer.StepReply as StepReply
+use Rattle.rules.specs.declared.answer.ListReply as ListReply
+use Rattle.runs.specs.Calls.{Call}
+use Rattle.runs.specs.Passes.{one, passed}
+use Rattle.runs.specs.Log.{Entry, entryOf, playLog, Right, Logged, past, replied}
+use Rattle.runs.specs.Begun.{Event, commitsIn, Fits, nothingDue}
+use Rattle.runs.specs.Holders.{Reaches, Quiet, holders}
+
+-- c: the settings; cs: the calls; s: the state after them; events: their accepted begins and commits; log: the commits alone
+pub record Demand3 (c : Settings) (cs : List Call) (s : State) (events : List Event) (log : List Entry) : Type 0 where
+  -- the log has the commits in their order
+  pub commits : log ≡ commitsIn events
+  -- each commit is of an operation that its thread has begun and not committed before
+  pub begun : Fits nothingDue events
+  -- commit numbers are 1, 2, 3, .., and each answer is that of one plain set, empty at first, that takes the commits in this order
+  pub answers : Right 0 0 log
+  -- an operation that ends replies with the answer and the number of its commit
+  pub ended : (t a n : ℕ) → stepOf s t .reply ≡ StepReply.the-variants.Ends a n → Logged (replied t (threadAt s t) a n) log
+  -- an operation that is committed and not yet ended has them in its registers
+  pub committed : (t : ℕ) → t ≤ 7 → past (threadAt s t) → Logged (entryOf t (threadAt s t)) log
+  -- of the reachable bases and the base registers of threads in phases 20 to 23, one has the key j if it is in the plain set, and none if not
+  pub keys : (j : ℕ) → holders s j ≡ one (has (playLog 0 log) j)
+  -- a node is reachable from the root exactly if the walk that lists keys meets it
+  pub met : (b : ℕ) → getD (reached s .seen) b false ≡ true → Reaches s (s .root) b
+  pub meets : (b : ℕ) → Reaches s (s .root) b → getD (reached s .seen) b false ≡ true
+  -- while no thread is in phases 20 to 23, the key list is the plain set
+  pub listed : settingsInRange c ≡ true → Quiet s → keyListOf s ≡ ListReply.the-variants.Keys (playLog 0 log)
+  -- below each reachable route, keys on its left are smaller than its key and keys on its right are not
+  pub left : (x b j : ℕ) → Reaches s (s .root) x → isRoute (placeAt s x) ≡ true → Reaches s (childOn false (placeAt s x)) b
+      → isBase (placeAt s b) ≡ true → has (keysOf (placeAt s b)) j ≡ true → j < routeKey (placeAt s x)
+  pub right : (x b j : ℕ) → Reaches s (s .root) x → isRoute (placeAt s x) ≡ true → Reaches s (childOn true (placeAt s x)) b
+      → isBase (placeAt s b) ≡ true → has (keysOf (placeAt s b)) j ≡ true → routeKey (placeAt s x) ≤ j
+  -- no walk passes more than 42 routes
+  pub routes : (t : ℕ) → passed t (fresh c) cs 0 ≤ 42
+  -- no step and no key list is refused with 8
+  pub steps : (t : ℕ) → stepNumber (stepOf s t .reply) ≡ 8 → ⊥
+  pub list : listNumber (keyListOf s) ≡ 8 → ⊥

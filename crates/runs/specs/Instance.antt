@@ -1,0 +1,95 @@
+-- Example D as a run: demand 3 speaks of something. Seven operations are committed. Thread 0 has spliced and not linked: key 2 of the plain set
+-- is in its base register alone, so the key list lacks it.
+use mathlib.Core.Bool.{true, false}
+use mathlib.Core.List.{List, [], _∷_, _++_, map}
+use mathlib.Core.Path.{_≡_, refl}
+use Prim.Native.Nat.{ℕ, _+_}
+use Rattle.keys.specs.Keys.{has}
+use Rattle.rules.specs.declared.state.Settings.{Settings}
+use Rattle.rules.specs.declared.state.State.{State}
+use Rattle.rules.specs.declared.answer.ListReply.the-variants.{Keys}
+use Rattle.keys.specs.Keys.{with, without, union, below, from, rising, listOf, size, splitKey}
+use Rattle.rules.specs.State.{fresh, placeAt, threadAt}
+use Rattle.rules.specs.Rows.{hangs, searches, seeks, row1, row2, row3, row4, commits, decides, row5, noSplit, split, row6, row7, row8, row9, row10, row11, noJoin, join, row12, row13, row14, row15, row16, row17, row18, row19, row20, row21, row22, row23, row24, row25, row0, rows, planOf, needs, stuck}
+use Rattle.rules.specs.Range.{settingsInRange, bodyInRange, placeInRange, registerInRange, registersInRange, threadInRange, placesInRange, threadsInRange, countsInRange, inRange}
+use Rattle.rules.specs.Step.{begun, beginOf, viewBefore, nextOf, viewOf, put, apply, after, replyOf, stepOf}
+use Rattle.runs.specs.Calls.{Call, begins, steps, afterCall, afterCalls, times}
+use Rattle.runs.specs.Passes.{one, takesRoute, passedBy, passes, passed}
+use Rattle.runs.specs.Log.{Entry, logOf, playLog}
+use Rattle.runs.specs.Holders.{howMany, holders}
+use Rattle.rules.specs.List.{unmet, again, meets, lists, gather, reached, keyListOf}
+
+-- `R 1 3 -1 2`
+abbrev pub exampleSettings : Settings
+exampleSettings = record { succ = 1; fail = 3; low = 1; max = 2 }
+
+-- thread t begins operation o on key k and takes n steps
+unfoldable pub plays : ℕ → ℕ → ℕ → ℕ → List Call
+plays t o k n = begins t o k ∷ times n (steps t)
+
+-- the begins and steps of example D
+unfoldable pub exampleD : List Call
+exampleD =
+    plays 0 0 5 4
+    ++ plays 0 0 9 4
+    ++ plays 0 0 2 4
+    ++ plays 0 2 5 2
+    ++ plays 1 0 7 3
+    ++ times 2 (steps 0)
+    ++ times 6 (steps 1)
+    ++ plays 0 2 2 5
+    ++ plays 0 2 2 12
+
+abbrev pub number : Entry → ℕ
+number e = e .number
+
+-- what the definitions say of the run
+pub record Seen (s : State) (log : List Entry) : Type 0 where
+  pub phase : threadAt s 0 .phase ≡ 21
+  pub set : has (playLog 0 log) 2 ≡ true
+  pub list : has (reached s .keys) 2 ≡ false
+  pub count : holders s 2 ≡ 1
+  pub numbers : map number log ≡ 1 ∷ 2 ∷ 3 ∷ 4 ∷ 5 ∷ 6 ∷ 7 ∷ []
+  pub routes : passed 0 (fresh exampleSettings) exampleD 0 ≡ 1
+  -- "Phase 23 using the parent that N had at phase 9: the splice may have changed it": four steps later 2, 5, 7 and 9 are listed, as in example C
+  pub linked : keyListOf (afterCalls s (times 4 (steps 0))) ≡ Keys 676
+
+pub example-D : Seen (afterCalls (fresh exampleSettings) exampleD) (logOf (fresh exampleSettings) exampleD)
+unfolding one with without union below from rising listOf size splitKey fresh placeAt threadAt hangs searches seeks row1 row2 row3 row4 commits decides row5 noSplit split row6 row7 row8 row9 row10 row11 noJoin join row12 row13 row14 row15 row16 row17 row18 row19 row20 row21 row22 row23 row24 row25 row0 rows planOf needs stuck settingsInRange bodyInRange placeInRange registerInRange registersInRange threadInRange placesInRange threadsInRange countsInRange inRange begun beginOf viewBefore nextOf viewOf put apply after replyOf stepOf afterCall takesRoute passedBy passes passed unmet again meets lists gather reached howMany holders afterCalls logOf playLog times plays exampleD keyListOf
+example-D = record { phase = refl; set = refl; list = refl; count = refl; numbers = refl; routes = refl; linked = refl }
+
+-- `R 1 2 -1 0`
+abbrev pub crossSettings : Settings
+crossSettings = record { succ = 1; fail = 2; low = 1; max = 0 }
+
+-- two lookups of k, d routes below the root, at one base: the second has to wait and splits it
+unfoldable pub contended : ℕ → ℕ → List Call
+contended k d = plays 0 2 k (2 + d) ++ plays 1 2 k (2 + d) ++ times 2 (steps 0) ++ times 6 (steps 1)
+
+-- two joins that cross: thread 0 stands in phase 17, and thread 1 splices out the route that is its G; then thread 0 takes two steps
+unfoldable pub crossing : List Call
+crossing =
+    plays 0 0 1 4
+    ++ plays 0 0 2 4
+    ++ plays 0 0 3 4
+    ++ plays 0 0 4 4
+    ++ plays 0 0 5 4
+    ++ plays 0 0 6 4
+    ++ contended 1 0
+    ++ contended 1 1
+    ++ contended 2 2
+    ++ plays 0 2 1 6
+    ++ plays 0 2 1 13
+    ++ plays 1 2 4 5
+    ++ plays 1 2 4 20
+    ++ times 2 (steps 0)
+
+-- "Skipping phase 18: G may itself have been spliced out": thread 0 looks for G again, key 1 is held once, and at the end 1 to 6 are listed
+pub record Crossed (s : State) : Type 0 where
+  pub phase : threadAt s 0 .phase ≡ 15
+  pub count : holders s 1 ≡ 1
+  pub list : keyListOf (afterCalls s (times 8 (steps 0))) ≡ Keys 126
+
+pub crossed : Crossed (afterCalls (fresh crossSettings) crossing)
+unfolding one with without union below from rising listOf size splitKey fresh placeAt threadAt hangs searches seeks row1 row2 row3 row4 commits decides row5 noSplit split row6 row7 row8 row9 row10 row11 noJoin join row12 row13 row14 row15 row16 row17 row18 row19 row20 row21 row22 row23 row24 row25 row0 rows planOf needs stuck settingsInRange bodyInRange placeInRange registerInRange registersInRange threadInRange placesInRange threadsInRange countsInRange inRange begun beginOf viewBefore nextOf viewOf put apply after replyOf stepOf afterCall takesRoute passedBy passes passed unmet again meets lists gather reached howMany holders afterCalls logOf playLog times plays contended crossing keyListOf
+crossed = record { phase = refl; count = refl; list = refl }

@@ -1,0 +1,61 @@
+-- The log of commits, and one plain set that takes them in their order.
+use mathlib.Core.Bool.{Bool, cond, _&&_}
+use mathlib.Core.List.{List, [], _∷_}
+use mathlib.Core.Path.{_≡_}
+use Prim.Native.Nat.{ℕ, _+_, _≤_}
+use lib.Dec.{eqb}
+use Rattle.keys.specs.Keys.{has}
+use Rattle.rules.specs.State.{placeAt, threadAt}
+use Rattle.rules.specs.Places.{keysAfter, answerOf}
+use Rattle.rules.specs.Step.{after}
+use Rattle.rules.specs.declared.state.Thread.{Thread}
+use Rattle.rules.specs.declared.state.State.{State}
+use Rattle.runs.specs.Calls.{Call, begins, steps, afterCall, accepted}
+
+-- thread t's next step commits
+abbrev pub commitsNow : State → ℕ → Bool
+commitsNow s t = eqb (threadAt s t .phase) 5 && placeAt s (threadAt s t .base) .valid
+
+-- a commit: the thread, the operation, its key, the answer and the commit number
+pub record Entry : Type 0 where
+  pub thread : ℕ
+  pub operation : ℕ
+  pub key : ℕ
+  pub answer : ℕ
+  pub number : ℕ
+
+-- what the registers of thread n say of its commit
+abbrev pub entryOf : ℕ → Thread → Entry
+entryOf n t = record { thread = n; operation = t .operation; key = t .key; answer = t .answer; number = t .commit }
+
+-- the commits of some calls, in their order
+unfoldable pub logOf : State → List Call → List Entry
+logOf s [] = []
+logOf s (begins t o k ∷ cs) = logOf (afterCall s (begins t o k)) cs
+logOf s (steps t ∷ cs) =
+    cond (accepted s t && commitsNow s t) (entryOf t (threadAt (after s t) t) ∷ logOf (afterCall s (steps t)) cs)
+    (logOf (afterCall s (steps t)) cs)
+
+-- the plain set p after some commits
+unfoldable pub playLog : ℕ → List Entry → ℕ
+playLog p [] = p
+playLog p (e ∷ l) = playLog (keysAfter (e .operation) p (e .key)) l
+
+-- from the plain set p and n commits on, each answer is that of the plain set and the numbers count on
+abbrev pub Right : ℕ → ℕ → List Entry → Type 0
+Right p n [] = Unit {0}
+Right p n (e ∷ l) =
+    (e .answer ≡ answerOf (e .operation) (has p (e .key))) × (e .number ≡ n + 1) × Right (keysAfter (e .operation) p (e .key)) (n + 1) l
+
+-- e is in the log
+pub data Logged (e : Entry) : List Entry → Type 0 where
+  first : {l : List Entry} → Logged e (e ∷ l)
+  later : {d : Entry} {l : List Entry} → Logged e l → Logged e (d ∷ l)
+
+-- a thread past its commit: phases 6 to 25
+abbrev pub past : Thread → Type 0
+past t = 6 ≤ t .phase
+
+-- a commit of the operation of thread n with the answer and the commit number of a reply
+abbrev pub replied : ℕ → Thread → ℕ → ℕ → Entry
+replied n t a m = record { thread = n; operation = t .operation; key = t .key; answer = a; number = m }

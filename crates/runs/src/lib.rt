@@ -1,0 +1,1 @@
+// Runs and what demand 3 says of them: definitions only, no function.
