@@ -1,6 +1,6 @@
 -- "Schedule and key sheet": the forms of the schedule's lines.
 use mathlib.Core.Bool.{Bool, true, false, cond, not, _&&_}
-use mathlib.Core.List.{List, []}
+use mathlib.Core.List.{List, [], _∷_}
 use mathlib.Core.Path.{_≡_, refl}
 use Prim.Native.Nat.{ℕ}
 use native.Mathlib.Omega.{arith}
@@ -88,6 +88,30 @@ lineForm l =
     cond (isBegin (fields l))
     (Line.the-variants.Begin (value (field (fields l) 1)) (operationOf (field (fields l) 2)) (value (field (fields l) 3)))
     (cond (isSteps (fields l)) (Line.the-variants.Steps (value (field (fields l) 1)) (value (field (fields l) 2))) Line.the-variants.Slip)
+
+-- ---- document 01's number and values for each case of the two answers
+
+-- "2 the first line is .. not a settings line in range"
+abbrev pub firstNumber : First.First → ℕ
+firstNumber (First.the-variants.Settings c) = 0
+firstNumber First.the-variants.Slip = 2
+
+-- succ, fail, how far min lies below 0, max
+abbrev pub firstValues : First.First → List ℕ
+firstValues (First.the-variants.Settings c) = c .succ ∷ c .fail ∷ c .low ∷ c .max ∷ []
+firstValues First.the-variants.Slip = []
+
+-- "1 a line .. is not of the forms"
+abbrev pub lineNumber : Line.Line → ℕ
+lineNumber (Line.the-variants.Begin t o k) = 0
+lineNumber (Line.the-variants.Steps t n) = 0
+lineNumber Line.the-variants.Slip = 1
+
+-- "B thread op key", "S thread n"
+abbrev pub lineValues : Line.Line → List ℕ
+lineValues (Line.the-variants.Begin t o k) = t ∷ o ∷ k ∷ []
+lineValues (Line.the-variants.Steps t n) = t ∷ n ∷ []
+lineValues Line.the-variants.Slip = []
 
 -- the settings of an accepted line are in range
 pub first-in-range : (l : List ℕ) (c : Settings) → firstForm l ≡ First.the-variants.Settings c → settingsInRange c ≡ true

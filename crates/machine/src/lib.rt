@@ -1,4 +1,4 @@
-// The machine on a whole state: fresh, begin, step, counted steps.
+// The machine on a whole state: a step, and counted steps.
 pub mod calls;
 pub mod run;
 mod view;

@@ -2,7 +2,6 @@
 use crate::view;
 use nodes::place;
 use rows::phase;
-use rows::ready;
 use rules::answer::Run;
 use rules::answer::RunReply;
 use rules::row::View;

@@ -1,4 +1,3 @@
-// What rows ask of and do to a lock, a place and a thread's registers.
+// What rows ask of and do to a lock and a place.
 pub mod lock;
 pub mod place;
-pub mod register;

@@ -23,7 +23,7 @@ pub struct Turn {
 pub fn open() -> Player
     ensures { λ r. ⌜ r ≡ opened ⌝ }
 {
-    let made = machine::calls::fresh(0, 0, 0, 0);
+    let made = beginning::fresh(0, 0, 0, 0);
     let state = made.state;
     Player {
         at: 0,

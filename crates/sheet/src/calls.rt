@@ -70,7 +70,7 @@ fn begin_line(s: State, t: u32, o: u32, k: u32, room: &mut [u8]) -> Answer
     requires { ⌜ 256 ≤ length (now room) ⌝ }
     ensures { λ r. ⌜ Called (beginLine t (beginOf s t o k .state) (beginOf s t o k .reply)) (now (room .entry)) r (now (room .exit)) ⌝ }
 {
-    let begin = machine::calls::begin(s, t, o, k);
+    let begin = beginning::begin(s, t, o, k);
     let reply = begin.reply;
     let u = begin.state;
     match reply {
@@ -130,7 +130,7 @@ fn fresh_state(c: Settings) -> State
     requires { ⌜ settingsInRange c ≡ true ⌝ }
     ensures { λ r. ⌜ r ≡ fresh c ⌝ }
 {
-    let made = machine::calls::fresh(c.succ, c.fail, c.low, c.max);
+    let made = beginning::fresh(c.succ, c.fail, c.low, c.max);
     made.state
 }
 

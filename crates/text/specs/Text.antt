@@ -73,6 +73,11 @@ valueIf t v = cond t (Number.the-variants.Value v) Number.the-variants.Slip
 abbrev pub numberOf : List ℕ → Number.Number
 numberOf f = valueIf (isNumber f) (value f)
 
+-- the value that was read; none in a slip, which is refusal 1 in a line, 2 in the first line
+abbrev pub numberValues : Number.Number → List ℕ
+numberValues (Number.the-variants.Value v) = v ∷ []
+numberValues Number.the-variants.Slip = []
+
 -- ---- writing
 
 -- the digits of n; the first number is how many they are at most
