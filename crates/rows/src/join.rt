@@ -151,7 +151,8 @@ pub(crate) fn row_23(v: View) -> Plan
 {
     let t = v.thread;
     let w = v.walk;
-    plan::hangs(v, registers::at_phase(24, t), t.made, t.neighbour, t.walk, w)
+    let u = registers::at_phase(24, t);
+    plan::hangs(v, u, t.made, t.neighbour, t.walk, w)
 }
 
 // Release N.
