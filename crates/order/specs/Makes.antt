@@ -1,21 +1,28 @@
 -- Steps that make nodes, which are not hung yet.
-use mathlib.Core.Bool.{false, cond}
-use mathlib.Core.Path.{_≡_, sym, ap, _∙_}
+use mathlib.Core.Bool.{false, cond, true≢false}
+use mathlib.Core.Path.{_≡_, refl, sym, ap, _∙_}
 use Prim.Native.Nat.{ℕ, _+_, _*_, _≤_, _<_}
 use native.Mathlib.Omega.{arith}
 use lib.Dec.{ltb}
+use lib.ListN.{getD, length}
 use borrow.Author.Tests.{lt-ltb, le-ltb, ltb-true, ltb-false}
+use Rattle.rules.specs.State.{zeroPlace, threadAt}
 use Rattle.rules.specs.Places.{keysOf}
+use Rattle.rules.specs.Step.{apply}
 use Rattle.rules.specs.declared.state.Place.{Place}
 use Rattle.rules.specs.declared.state.Thread.{Thread}
+use Rattle.rules.specs.declared.state.State.{State}
+use Rattle.rules.specs.declared.row.Plan.{Plan}
 use Rattle.graph.specs.Cases.{Test, holds, fails, test}
 use Rattle.graph.specs.Walk.{Cell}
 use Rattle.graph.specs.Count.{routes}
 use Rattle.graph.specs.Graph.{summit, hung, unmade, Makes, makes-belongs}
-use Rattle.order.specs.World.{cell-same, World, graph, cell}
+use Rattle.order.specs.World.{cell-same, World, graph, cell, cellsOf, worldOf}
 use Rattle.order.specs.Stages.{Stage}
 use Rattle.order.specs.Change.{Change}
 use Rattle.order.specs.Steady.{Safe, Any, as-was, Calm, calm, steady}
+use Rattle.order.specs.Bridge.{thread-me, thread-other}
+use Rattle.order.specs.Ordered.{Ordered, Stepped}
 
 -- the nodes from made on up to made′ are me's
 pub given : ℕ → ℕ → ℕ → (ℕ → ℕ) → ℕ → ℕ
@@ -139,3 +146,25 @@ module _ {w w′ : World} {thread : ℕ → Thread} {made made′ me : ℕ} (saf
             a .own x ∙ given-above made made′ me (w .own) x (omega (arith, a .more)) p ∙ safe .sound .fresh x (omega (arith, a .more)) q;
         many = many;
       }) c
+
+-- a step of thread me that makes nodes and does nothing else to the tree
+pub adds-stepped : {s : State} (r : Ordered s) → length (s .threads) ≡ 8 → {me : ℕ} → me ≤ 7 → (p : Plan)
+    → Adds (worldOf s (r .tree) (r .own)) (worldOf (apply s me p) (r .tree) (given (s .made) (p .made) me (r .own))) (s .made) (p .made) me
+    → 1 + 3 * routes (cellsOf (apply s me p)) summit ≤ p .made → (threadAt s me .phase ≡ 8 → ⊥)
+    → Stage (worldOf (apply s me p) (r .tree) (given (s .made) (p .made) me (r .own))) me (p .thread) → Stepped r me (apply s me p)
+unfolding apply
+adds-stepped {s} r len {me} l p a many n c =
+    record {
+      tree = r .tree;
+      own = given (s .made) (p .made) me (r .own);
+      safe = adds-safe (r .safe) a l many (thread-other s me p) n (rw (thread-me s me p len l) c);
+      unmoved = λ z.
+          record {
+            tree = refl;
+            cells = λ x h.
+                cell-same (λ y. getD (s .places) y zeroPlace) (λ y. getD (apply s me p .places) y zeroPlace) x (a .root)
+                (ap (λ (q : Place). q .body) (adds-still (r .safe) a l x h));
+            keys = λ x h m. ap keysOf (adds-still (r .safe) a l x h);
+          };
+      kinds = λ x z. adds-change (r .safe) a l .moves .kind x (λ u. true≢false (sym z ∙ r .safe .sound .good .bare x u)) ∙ z;
+    }

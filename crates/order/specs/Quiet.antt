@@ -63,6 +63,14 @@ pub data Touch (me : ℕ) (K : Type 0) (F : Type 0) (q p : Place) : Type 0 where
   frees : (K → ⊥) → p .valid ≡ q .valid → Touch me K F q p
   fades : (F → ⊥) → p .lock .holder ≡ q .lock .holder → p .valid ≡ false → Touch me K F q p
 
+-- a place that I hold
+pub own-touch : {me : ℕ} {K F : Type 0} {q p : Place} → q .lock .holder ≡ me → (q .valid ≡ false → p .valid ≡ false) → Touch me K F q p
+own-touch e f = mine (λ v o h. o .differ (sym h ∙ e)) f
+
+-- a phase that is not 8
+pub not8 : {p : ℕ} (n : ℕ) → p ≡ n → (n ≡ 8 → ⊥) → p ≡ 8 → ⊥
+not8 n e h q = h (sym e ∙ q)
+
 module _ {w w′ : World} (q : Quiet w w′) where
   quiet-cell : (x : ℕ) → cell w′ x ≡ cell w x
   quiet-cell x = cell-same (w .place) (w′ .place) x (q .root) (q .bodies x)

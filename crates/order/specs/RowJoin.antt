@@ -19,18 +19,18 @@ use Rattle.graph.specs.Count.{routes, routes-same}
 use Rattle.graph.specs.Walk.{Cell, kid, walks-meet}
 use Rattle.graph.specs.Tree.{count, kid-in}
 use Rattle.graph.specs.Graph.{summit, hung, Route}
-use Rattle.order.specs.World.{cellOfBody, cell-node, cell-same, World, graph, cell, valid, keys, inTree, worldOf, Sound}
+use Rattle.order.specs.World.{cellOfBody, cell-node, World, graph, cell, valid, keys, inTree, worldOf, Sound}
 use Rattle.order.specs.Stages.{Taken, Pairing}
 use Rattle.order.specs.Change.{Holds, Change}
 use Rattle.order.specs.Survive.{base-at, holding, held-keys, joining}
 use Rattle.order.specs.Steady.{Any}
-use Rattle.order.specs.Bridge.{place-at, thread-me, thread-other, put-new, put-old}
+use Rattle.order.specs.Bridge.{place-at, put-new, put-old}
 use Rattle.order.specs.Walks.{held-in}
 use Rattle.order.specs.Ordered.{Ordered, Stepped}
 use Rattle.order.specs.Quiet.{self}
 use Rattle.order.specs.AtPhase.{at-phase}
 use Rattle.order.specs.RowsLocks.{no-join-kept}
-use Rattle.order.specs.Makes.{given, Adds, adds-change, adds-own, adds-still, adds-kind, adds-bare, adds-safe}
+use Rattle.order.specs.Makes.{given, Adds, adds-change, adds-own, adds-kind, adds-bare, adds-stepped}
 
 module _ {s : State} (r : Ordered s) (len : length (s .threads) ≡ 8) (room : length (s .places) ≡ 128) {me : ℕ} (l : me ≤ 7)
     (e : threadAt s me .phase ≡ 12) where
@@ -149,22 +149,8 @@ module _ {s : State} (r : Ordered s) (len : length (s .threads) ≡ 8) (room : l
         kind x (apart q) = adds-kind (r .safe) adds l x (λ a b. q (omega arith))
 
     join-kept : Stepped r me (apply s me (join (viewOf s me)))
-    unfolding apply join viewOf viewBefore
-    join-kept =
-        record {
-          tree = r .tree;
-          own = given n (n + 1) me (r .own);
-          safe =
-              adds-safe (r .safe) adds l many (thread-other s me (join (viewOf s me))) (λ z. omega arith)
-              (rw (thread-me s me (join (viewOf s me)) len l) (record { holds = pairs }));
-          unmoved = λ z.
-              record {
-                tree = refl;
-                cells = λ x h. cell-same (w .place) (w′ .place) x refl (ap (λ (q : Place). q .body) (adds-still (r .safe) adds l x h));
-                keys = λ x h n. ap keysOf (adds-still (r .safe) adds l x h);
-              };
-          kinds = λ x z. change .moves .kind x (λ u. true≢false (sym z ∙ sound .good .bare x u)) ∙ z;
-        }
+    unfolding join viewOf viewBefore
+    join-kept = adds-stepped r len l (join (viewOf s me)) adds many (λ z. omega arith) (record { holds = pairs })
 
   -- row 12 keeps the order
   pub row12-kept : Stepped r me (apply s me (row12 (viewOf s me)))

@@ -20,7 +20,7 @@ use Rattle.order.specs.Survive.{pairing, dying, over}
 use Rattle.order.specs.Bridge.{place-at}
 use Rattle.order.specs.Walks.{route-of, held-in}
 use Rattle.order.specs.Ordered.{Ordered, Stepped}
-use Rattle.order.specs.Quiet.{only-row, Touch, mine, frees, one-change, self, one-row}
+use Rattle.order.specs.Quiet.{only-row, frees, one-change, self, one-row, not8, own-touch}
 use Rattle.order.specs.AtPhase.{at-phase}
 use Rattle.order.specs.RowsLock.{Takes, takes}
 
@@ -33,13 +33,6 @@ module _ {s : State} (r : Ordered s) (size : length (s .threads) ≡ 8) (room : 
 
   stage : Stage (worldOf s (r .tree) (r .own)) me (threadAt s me)
   stage = r .safe .each me l
-
-  not8 : (n : ℕ) → threadAt s me .phase ≡ n → (n ≡ 8 → ⊥) → threadAt s me .phase ≡ 8 → ⊥
-  not8 n e h q = h (sym e ∙ q)
-
-  -- a place that I hold
-  own-touch : {K F : Type 0} {q p : Place} → q .lock .holder ≡ me → (q .valid ≡ false → p .valid ≡ false) → Touch me K F q p
-  own-touch e f = mine (λ v o h. o .differ (sym h ∙ e)) f
 
   -- Dying by the registers, and its survival
   abbrev dies : World → Type 0

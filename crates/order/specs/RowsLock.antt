@@ -21,7 +21,7 @@ use Rattle.order.specs.Survive.{base-at, arrived, reached, pairing, hold
 use Rattle.order.specs.Steady.{Any}
 use Rattle.order.specs.Bridge.{place-at}
 use Rattle.order.specs.Ordered.{Ordered, Stepped}
-use Rattle.order.specs.Quiet.{only-row, Touch, stays, mine, frees, fades, one-change, self, one-row}
+use Rattle.order.specs.Quiet.{only-row, Touch, stays, mine, frees, fades, one-change, self, one-row, not8, own-touch}
 use Rattle.order.specs.AtPhase.{at-phase}
 
 -- a place taken by me: a lock with me as holder
@@ -38,16 +38,9 @@ module _ {s : State} (r : Ordered s) (size : length (s .threads) ≡ 8) (room : 
   stage : Stage (worldOf s (r .tree) (r .own)) me (threadAt s me)
   stage = r .safe .each me l
 
-  not8 : (n : ℕ) → threadAt s me .phase ≡ n → (n ≡ 8 → ⊥) → threadAt s me .phase ≡ 8 → ⊥
-  not8 n e h q = h (sym e ∙ q)
-
   -- a free place that is taken
   free-touch : {m : ℕ} {K F : Type 0} {q p : Place} → q .lock .holder ≡ nobody → p .valid ≡ q .valid → Touch m K F q p
   free-touch e f = mine (λ v o h. omega (arith, o .thread)) (λ h. f ∙ h)
-
-  -- a place that I hold
-  own-touch : {K F : Type 0} {q p : Place} → q .lock .holder ≡ me → (q .valid ≡ false → p .valid ≡ false) → Touch me K F q p
-  own-touch e f = mine (λ v o h. o .differ (sym h ∙ e)) f
 
   free-is : (x : ℕ) → x < summit → isFree (placeAt s x) ≡ true → hold w x ≡ nobody
   free-is x m e = ap (λ (q : Place). q .lock .holder) (sym (place-at s x m)) ∙ eqb-true (placeAt s x .lock .holder) nobody e

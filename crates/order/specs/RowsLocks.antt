@@ -25,7 +25,7 @@ use Rattle.order.specs.SurviveLink.{linking, closing}
 use Rattle.order.specs.Steady.{Any, calm}
 use Rattle.order.specs.Bridge.{place-at, put-new, put-old, put-length}
 use Rattle.order.specs.Ordered.{Ordered, Stepped}
-use Rattle.order.specs.Quiet.{Quiet, quiet-calm, Touch, stays, mine, frees, fades, quiet-row, self, one-change, one-row}
+use Rattle.order.specs.Quiet.{Quiet, quiet-calm, Touch, stays, frees, fades, quiet-row, self, one-change, one-row, own-touch}
 use Rattle.order.specs.AtPhase.{at-phase}
 
 -- what holds of the old place and the new at each node where one is stored, and elsewhere, holds at every node
@@ -49,9 +49,6 @@ module _ {s : State} (r : Ordered s) (size : length (s .threads) ≡ 8) (room : 
 
   stage : Stage (worldOf s (r .tree) (r .own)) me (threadAt s me)
   stage = r .safe .each me l
-
-  own-touch : {K F : Type 0} {q p : Place} → q .lock .holder ≡ me → (q .valid ≡ false → p .valid ≡ false) → Touch me K F q p
-  own-touch e f = mine (λ v o h. o .differ (sym h ∙ e)) f
 
   -- two places, then a third
   two : (R : ℕ → Place → Place → Type 0) (a b : ℕ) (f g : Place → Place) → a < summit → b < summit → R a (old a) (f (old a)) → R b (old b) (g (old b))

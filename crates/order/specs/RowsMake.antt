@@ -1,5 +1,5 @@
 -- The rows that make nodes: 6 and 12.
-use mathlib.Core.Bool.{Bool, true, false, cond, true≢false}
+use mathlib.Core.Bool.{Bool, true, false, cond}
 use mathlib.Core.List.{List}
 use mathlib.Core.Path.{_≡_, refl, sym, ap, _∙_}
 use Prim.Native.Nat.{ℕ, _+_, _*_, _≤_, _<_}
@@ -20,17 +20,17 @@ use Rattle.graph.specs.Cases.{Same, same, apart, compared}
 use Rattle.graph.specs.Count.{routes, routes-more}
 use Rattle.graph.specs.Walk.{Cell}
 use Rattle.graph.specs.Graph.{summit, hung}
-use Rattle.order.specs.World.{cellOfBody, cell-node, cell-same, World, cell, keys, worldOf, Sound}
+use Rattle.order.specs.World.{cellOfBody, cell-node, World, cell, keys, worldOf, Sound}
 use Rattle.order.specs.Stages.{Stage, Dense, Splitting}
 use Rattle.order.specs.Change.{Change}
 use Rattle.order.specs.Survive.{owning, held-keys}
 use Rattle.order.specs.Steady.{Any}
-use Rattle.order.specs.Bridge.{place-at, thread-me, thread-other, put-new, put-old, put-length}
+use Rattle.order.specs.Bridge.{place-at, put-new, put-old, put-length}
 use Rattle.order.specs.Ordered.{Ordered, Stepped}
 use Rattle.order.specs.Quiet.{self}
 use Rattle.order.specs.AtPhase.{at-phase}
 use Rattle.order.specs.RowsLock.{no-split-kept}
-use Rattle.order.specs.Makes.{given, Adds, adds-change, adds-own, adds-still, adds-kind, adds-bare, adds-safe}
+use Rattle.order.specs.Makes.{given, Adds, adds-change, adds-own, adds-kind, adds-bare, adds-stepped}
 
 module _ {s : State} (r : Ordered s) (len : length (s .threads) ≡ 8) (room : length (s .places) ≡ 128) {me : ℕ} (l : me ≤ 7) where
   abbrev w : World
@@ -163,22 +163,8 @@ module _ {s : State} (r : Ordered s) (len : length (s .threads) ≡ 8) (room : l
         kind x h (apart z) (apart y) = adds-kind (r .safe) adds l x (λ a b. absurd (omega arith))
 
     pub split-kept : Stepped r me (apply s me (split (viewOf s me)))
-    unfolding apply split viewOf viewBefore
-    split-kept =
-        record {
-          tree = r .tree;
-          own = given n (n + 3) me (r .own);
-          safe =
-              adds-safe (r .safe) adds l many (thread-other s me (split (viewOf s me))) (λ z. omega arith)
-              (rw (thread-me s me (split (viewOf s me)) len l) (record { holds = splits }));
-          unmoved = λ z.
-              record {
-                tree = refl;
-                cells = λ x h. cell-same (w .place) (w′ .place) x refl (ap (λ (q : Place). q .body) (adds-still (r .safe) adds l x h));
-                keys = λ x h n. ap keysOf (adds-still (r .safe) adds l x h);
-              };
-          kinds = λ x z. change .moves .kind x (λ u. true≢false (sym z ∙ sound .good .bare x u)) ∙ z;
-        }
+    unfolding split viewOf viewBefore
+    split-kept = adds-stepped r len l (split (viewOf s me)) adds many (λ z. omega arith) (record { holds = splits })
 
   -- row 6 keeps the order
   pub row6-kept : threadAt s me .phase ≡ 6 → Stepped r me (apply s me (row6 (viewOf s me)))

@@ -22,7 +22,7 @@ use Rattle.order.specs.AtPhase.{at-phase}
 use Rattle.order.specs.Bridge.{reads-route, reads-key, reads-kid, reads-next, summit-next}
 use Rattle.order.specs.Walks.{summit-at, kid-small, search-route, search-base, along-first, along-then, seek-route, seek-base, fixed, under-summit, towards-from, towards-root, parent-over, descend-far, descend-on, descend-ends}
 use Rattle.order.specs.Ordered.{Ordered, Stepped}
-use Rattle.order.specs.Quiet.{only-row}
+use Rattle.order.specs.Quiet.{only-row, not8}
 
 module _ {w : World} {thread : ℕ → Thread} {made : ℕ} (sound : Sound w thread made) {me : ℕ} (t : Thread) where
   -- after a step of the search from x to y
@@ -48,9 +48,6 @@ module _ {s : State} (r : Ordered s) (size : length (s .threads) ≡ 8) {me : �
 
   mine : Stage (worldOf s (r .tree) (r .own)) me (threadAt s me)
   mine = r .safe .each me l
-
-  not8 : (n : ℕ) → threadAt s me .phase ≡ n → (n ≡ 8 → ⊥) → threadAt s me .phase ≡ 8 → ⊥
-  not8 n e h q = h (sym e ∙ q)
 
   -- row 1 keeps the order
   pub row1-kept : threadAt s me .phase ≡ 1 → Stepped r me (apply s me (row1 (viewOf s me)))

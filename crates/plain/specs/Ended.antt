@@ -4,6 +4,7 @@ use mathlib.Core.List.{List, [], _∷_}
 use mathlib.Core.Path.{_≡_, refl, sym, ap, _∙_, subst}
 use Prim.Native.Nat.{ℕ, _≤_, _<_}
 use native.Mathlib.Omega.{arith}
+use lib.ListN.{length}
 use lib.Dec.{ltb, leb, eqb}
 use lib.Seq.{getD-set-same, getD-set-other}
 use borrow.Author.Tests.{ltb-false, leb-false, lt-leb, eq-eqb}
@@ -22,7 +23,7 @@ use Rattle.states.specs.Tests.{pick-by}
 use Rattle.states.specs.Followed.{step-ends}
 use Rattle.graph.specs.Cases.{Same, same, apart, compared}
 use Rattle.runs.specs.Calls.{Call, begins, steps, afterCall, accepted, afterCalls}
-use Rattle.runs.specs.Log.{commitsNow, Entry, entryOf, logOf, Logged, past, replied, later, first}
+use Rattle.runs.specs.Log.{commitsNow, Entry, entryOf, logOf, Logged, past, replied, finished, endedOf, later, first}
 use Rattle.order.specs.Bridge.{thread-other, thread-row}
 use Rattle.order.specs.Fresh.{fresh-idle}
 use Rattle.order.specs.Tally.{early, thread-tally}
@@ -136,9 +137,7 @@ step-sure {s} i t u b l w (takes m n a e) = thread (compared t u)
 
     mine : t ≡ u → Waits u (threadAt (after s u) u) b → (d : Bool) → commitsNow s u ≡ d → Sure s t b (cond d (entryOf u (threadAt (after s u) u) ∷ l) l)
     mine q v true d =
-        logged
-        (subst (λ (z : ℕ). Logged (entryOf z b) (entryOf u (threadAt (after s u) u) ∷ l)) (sym q)
-        (subst (λ (z : Entry). Logged z (entryOf u (threadAt (after s u) u) ∷ l)) (v .entry) first))
+        logged (subst (λ (z : ℕ). Logged (entryOf z b) (entryOf u (threadAt (after s u) u) ∷ l)) (sym q) (first (v .entry)))
     mine q v false d = waited (subst (λ (z : ℕ). Waits z (threadAt s z) b) (sym q) (through (step-waits i m n d (v .before)) v))
 
     thread : Same t u → Sure s t b (cond (accepted s u && commitsNow s u) (entryOf u (threadAt (after s u) u) ∷ l) l)
@@ -207,11 +206,58 @@ module _ (c : Settings) (cs : List Call) where
       go (logged m) = m
       go (waited w) = absurd (omega (arith, w .before, ap (λ (z : Thread). z .phase) (fresh-idle c t l)))
 
-  -- and one that ends replies with what the log says
-  pub run-ended : (t a n : ℕ) → stepOf (afterCalls (fresh c) cs) t .reply ≡ StepReply.the-variants.Ends a n
-      → Logged (replied t (threadAt (afterCalls (fresh c) cs) t) a n) (logOf (fresh c) cs)
-  run-ended t a n e =
-      let k = ending s t a n e in
-      subst (λ (z : ℕ). Logged (replied t (threadAt s t) a z) (logOf (fresh c) cs)) (k .number)
-      (subst (λ (z : ℕ). Logged (replied t (threadAt s t) z (threadAt s t .commit)) (logOf (fresh c) cs)) (k .answer)
-      (run-committed t (k .thread) (omega (arith, step-ends s t a n e))))
+-- the reply e is in the log, or is that of a thread that was past its commit before
+data Told (s : State) (e : Entry) (l : List Entry) : Type 0 where
+  told : Logged e l → Told s e l
+  before : (t : ℕ) → t ≤ 7 → past (threadAt s t) → entryOf t (threadAt s t) ≡ e → Told s e l
+
+-- a reply that ends an operation is that of its thread
+reply-is : (s : State) (t a n : ℕ) → stepOf s t .reply ≡ StepReply.the-variants.Ends a n → entryOf t (threadAt s t) ≡ replied t (threadAt s t) a n
+reply-is s t a n e =
+    let k = ending s t a n e in
+    λ j. record { thread = t; operation = threadAt s t .operation; key = threadAt s t .key; answer = k .answer j; number = k .number j }
+
+none-logged : {e : Entry} {l : List Entry} → Logged e l → l ≡ [] → ⊥
+none-logged (first e) q = let n = ap length q in omega arith
+none-logged (later m) q = let n = ap length q in omega arith
+
+all-told : {s : State} → Invariant s → (cs : List Call) (e : Entry) → Logged e (endedOf s cs) → Told s e (logOf s cs)
+unfolding endedOf afterCall logOf
+all-told i [] e m = absurd (none-logged m refl)
+all-told {s} i (begins u o k ∷ cs) e m = go (all-told (call-kept i (begins u o k)) cs e m)
+  where
+    go : Told (beginOf s u o k .state) e (logOf (beginOf s u o k .state) cs) → Told s e (logOf (beginOf s u o k .state) cs)
+    go (told x) = told x
+    go (before t l h q) = let w = begun-waits i t u o k h in before t l (w .before) (w .entry ∙ q)
+all-told {s} i (steps u ∷ cs) e m = by (stepOf s u .reply) refl m (all-told (call-kept i (steps u)) cs e)
+  where
+    L : List Entry
+    L = logOf (stepOf s u .state) cs
+
+    -- one call before
+    back : Told (stepOf s u .state) e L → Told s e (cond (accepted s u && commitsNow s u) (entryOf u (threadAt (after s u) u) ∷ L) L)
+    back (told x) = told (add (entryOf u (threadAt (after s u) u)) (accepted s u && commitsNow s u) x)
+    back (before t l h q) = which (step-sure i t u (threadAt (stepOf s u .state) t) L (record { before = h; entry = refl }) (outcome s u))
+      where
+        which : Sure s t (threadAt (stepOf s u .state) t) (cond (accepted s u && commitsNow s u) (entryOf u (threadAt (after s u) u) ∷ L) L)
+            → Told s e (cond (accepted s u && commitsNow s u) (entryOf u (threadAt (after s u) u) ∷ L) L)
+        which (logged x) =
+            told (subst (λ (z : Entry). Logged z (cond (accepted s u && commitsNow s u) (entryOf u (threadAt (after s u) u) ∷ L) L)) q x)
+        which (waited w) = before t l (w .before) (w .entry ∙ q)
+
+    by : (r : StepReply.StepReply) → stepOf s u .reply ≡ r → Logged e (finished u (threadAt s u) r (endedOf (stepOf s u .state) cs))
+        → (Logged e (endedOf (stepOf s u .state) cs) → Told (stepOf s u .state) e L)
+        → Told s e (cond (accepted s u && commitsNow s u) (entryOf u (threadAt (after s u) u) ∷ L) L)
+    by (StepReply.the-variants.Goes p) z x f = back (f x)
+    by (StepReply.the-variants.Refused n) z x f = back (f x)
+    by (StepReply.the-variants.Ends a n) z (first q) f =
+        before u (ending s u a n z .thread) (omega (arith, step-ends s u a n z)) (reply-is s u a n z ∙ q)
+    by (StepReply.the-variants.Ends a n) z (later x) f = back (f x)
+
+-- after any calls from fresh, whatever an ended operation replied is in the log
+pub run-ended : (c : Settings) (cs : List Call) (e : Entry) → Logged e (endedOf (fresh c) cs) → Logged e (logOf (fresh c) cs)
+run-ended c cs e m = go (all-told (fresh-kept c) cs e m)
+  where
+    go : Told (fresh c) e (logOf (fresh c) cs) → Logged e (logOf (fresh c) cs)
+    go (told x) = x
+    go (before t l h q) = absurd (omega (arith, h, ap (λ (z : Thread). z .phase) (fresh-idle c t l)))

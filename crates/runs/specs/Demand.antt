@@ -13,11 +13,10 @@ use Rattle.rules.specs.List.{reached, keyListOf}
 use Rattle.rules.specs.Answers.{stepNumber, listNumber}
 use Rattle.rules.specs.declared.state.Settings.{Settings}
 use Rattle.rules.specs.declared.state.State.{State}
-use Rattle.rules.specs.declared.answer.StepReply as StepReply
 use Rattle.rules.specs.declared.answer.ListReply as ListReply
 use Rattle.runs.specs.Calls.{Call}
 use Rattle.runs.specs.Passes.{one, passed}
-use Rattle.runs.specs.Log.{Entry, entryOf, playLog, Right, Logged, past, replied}
+use Rattle.runs.specs.Log.{Entry, entryOf, playLog, Right, Logged, past, endedOf}
 use Rattle.runs.specs.Begun.{Event, commitsIn, Fits, nothingDue}
 use Rattle.runs.specs.Holders.{Reaches, Quiet, holders}
 
@@ -29,8 +28,8 @@ pub record Demand3 (c : Settings) (cs : List Call) (s : State) (events : List Ev
   pub begun : Fits nothingDue events
   -- commit numbers are 1, 2, 3, .., and each answer is that of one plain set, empty at first, that takes the commits in this order
   pub answers : Right 0 0 log
-  -- an operation that ends replies with the answer and the number of its commit
-  pub ended : (t a n : ℕ) → stepOf s t .reply ≡ StepReply.the-variants.Ends a n → Logged (replied t (threadAt s t) a n) log
+  -- an operation that has ended replied with the answer and the number of its commit
+  pub ended : (e : Entry) → Logged e (endedOf (fresh c) cs) → Logged e log
   -- an operation that is committed and not yet ended has them in its registers
   pub committed : (t : ℕ) → t ≤ 7 → past (threadAt s t) → Logged (entryOf t (threadAt s t)) log
   -- of the reachable bases and the base registers of threads in phases 20 to 23, one has the key j if it is in the plain set, and none if not
