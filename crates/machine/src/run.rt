@@ -1,9 +1,7 @@
 // Counted steps: the call behind an `S` line.
-use crate::range;
 use crate::view;
 use nodes::place;
 use rows::phase;
-use rows::ready;
 use rules::answer::Run;
 use rules::answer::RunReply;
 use rules::row::View;

@@ -1,5 +1,4 @@
-// What rows ask of and do to a lock, a place and a thread's registers.
+// What rows ask of and do to a lock and a place.
 pub mod lent;
 pub mod lock;
 pub mod place;
-pub mod register;

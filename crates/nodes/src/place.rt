@@ -117,12 +117,12 @@ pub fn takes_place(x: u8, new: u8, y: Place) -> Place
     }
 }
 
-pub fn with_lock(l: Lock, p: Place) -> Place
-    ensures { λ r. ⌜ r ≡ withLock l p ⌝ }
+pub fn with_lock(new: Lock, p: Place) -> Place
+    ensures { λ r. ⌜ r ≡ withLock new p ⌝ }
 {
     let b = p.body;
     Place {
-        lock: l,
+        lock: new,
         valid: p.valid,
         body: b,
     }
@@ -154,13 +154,13 @@ pub fn invalid(p: Place) -> Place
     }
 }
 
-pub fn with_keys(keys: u64, p: Place) -> Place
-    ensures { λ r. ⌜ r ≡ withKeys keys p ⌝ }
+pub fn with_keys(keys: u64, b: Place) -> Place
+    ensures { λ r. ⌜ r ≡ withKeys keys b ⌝ }
 {
-    let l = p.lock;
+    let l = b.lock;
     Place {
         lock: l,
-        valid: p.valid,
+        valid: b.valid,
         body: Body::Base { keys },
     }
 }

@@ -22,10 +22,10 @@ use Rattle.rules.specs.Step.{zeroSettings, beginOf, runOf}
 use Rattle.states.specs.Kept.{begin-in-range, run-in-range, fresh-in-range}
 use Rattle.text.specs.Text.{newline, until, fields, isLetter, lines, sheetLine}
 use Rattle.text.specs.Reading.{lines-cut}
-use Rattle.sheet.specs.Form.{isFirst, settingsForm, ranged, firstForm, lineForm, first-in-range}
+use Rattle.forms.specs.Form.{isFirst, settingsForm, ranged, firstForm, lineForm, first-in-range}
 use Rattle.sheet.specs.Sheet.{Played, narrow, refusal, firstPlayed, firstOf, beginLine, runLine, playForm, playLines, lineOf, endOf, endForm, playFirst, playAll, sheetOf}
-use Rattle.sheet.specs.declared.form.First as First
-use Rattle.sheet.specs.declared.form.Line as Line
+use Rattle.forms.specs.declared.First as First
+use Rattle.forms.specs.declared.Line as Line
 use Rattle.player.specs.Turns.{Out, standing, out, front, opened, firstTurn, lineTurn, turnOf}
 use Rattle.player.specs.declared.Player.{Player}
 

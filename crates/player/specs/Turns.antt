@@ -1,7 +1,7 @@
 -- One call of the player: what it writes, and where the play stands then.
 use mathlib.Core.Bool.{Bool, cond}
 use mathlib.Core.List.{List, []}
-use mathlib.Core.Path.{_≡_}
+use mathlib.Core.Path.{_≡_, sym, _∙_}
 use Prim.Native.Nat.{ℕ, _+_}
 use lib.Dec.{ltb, leb, eqb}
 use lib.ListN.{length, take, drop}
@@ -70,6 +70,10 @@ turn number size p = record { number = number; length = size; player = p }
 pub record Turned (o : Out) (l : List ℕ) (r : Turn) (l′ : List ℕ) : Type 0 where
   pub reply : r ≡ turn (o .number) (length (o .sheet)) (o .player)
   pub bytes : l′ ≡ sets l 0 (o .sheet)
+
+-- two turns that the same call allows are equal, and so is each byte of the room
+pub turned-same : {o : Out} {l l₁ l₂ : List ℕ} {r₁ r₂ : Turn} → Turned o l r₁ l₁ → Turned o l r₂ l₂ → (r₁ ≡ r₂) × (l₁ ≡ l₂)
+turned-same t u = (t .reply ∙ sym (u .reply), t .bytes ∙ sym (u .bytes))
 
 -- what a line call did to the room is what the call of the player did
 pub turned-called : {q : Played} {l l′ : List ℕ} {a : Answer} → Called q l a l′ → (at stage : ℕ)

@@ -23,7 +23,7 @@ pub struct Turn {
 pub fn open() -> Player
     ensures { λ r. ⌜ r ≡ opened ⌝ }
 {
-    let made = machine::calls::fresh(0, 0, 0, 0);
+    let made = beginning::fresh(0, 0, 0, 0);
     let state = made.state;
     Player {
         at: 0,
@@ -51,7 +51,7 @@ fn first_turn(p: Player, file: &[u8], room: &mut [u8]) -> Turn
     let state = p.state;
     if 60000 < file.len() {
         let numbers = [12u32];
-        let length = text::write::put_line(&mut *room, 88, &numbers);
+        let length = writing::put_line(&mut *room, 88, &numbers);
         return Turn {
             number: 12,
             length,
@@ -62,7 +62,7 @@ fn first_turn(p: Player, file: &[u8], room: &mut [u8]) -> Turn
             },
         };
     }
-    let end = text::read::until(file, 10);
+    let end = reading::until(file, 10);
     let a = sheet::calls::settings_line(&file[..end], &mut *room);
     let u = a.state;
     let number = a.number;
@@ -109,7 +109,7 @@ fn line_turn(p: Player, file: &[u8], room: &mut [u8]) -> Turn
         };
     }
     let rest = &file[at..];
-    let end = text::read::until(rest, 10);
+    let end = reading::until(rest, 10);
     let a = sheet::calls::line(state, &rest[..end], &mut *room);
     let u = a.state;
     Turn {

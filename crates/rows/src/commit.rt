@@ -1,7 +1,6 @@
 // The commit of an operation at phase 5, and the decision that follows.
 use crate::plan;
 use nodes::place;
-use nodes::register;
 use rules::row::Plan;
 use rules::row::View;
 use rules::state::Place;
@@ -9,9 +8,8 @@ ghost use mathlib.Core.Path.{_≡_};
 ghost use Prim.Native.Nat.{_+_, _<_};
 ghost use lib.Dec.{ltb};
 ghost use Rattle.keys.specs.Keys.{size};
-ghost use Rattle.rules.specs.State.{zeroStatistics};
 ghost use Rattle.rules.specs.Places.{answerOf, keysAfter};
-ghost use Rattle.rules.specs.Rows.{aboveMax, belowMin, keysThen, commits, decides};
+ghost use Rattle.rules.specs.Rows.{keysThen, commits, decides};
 
 // The answer of operation `o` on a key that is or is not present.
 fn answer_of(o: u8, present: bool) -> u8
@@ -51,32 +49,6 @@ pub(crate) fn keys_then(v: View) -> u64
     keys_after(t.operation, place::keys_of(b), t.key)
 }
 
-// Statistics above a max.
-fn above(n: u32, max: u32) -> bool
-    ensures { λ r. ⌜ r ≡ ltb (zeroStatistics + max) n ⌝ }
-{
-    2000000 + (max as u64) < (n as u64)
-}
-
-// Statistics below a min that lies `low` below 0.
-fn under(n: u32, low: u32) -> bool
-    ensures { λ r. ⌜ r ≡ ltb (n + low) zeroStatistics ⌝ }
-{
-    (n as u64) + (low as u64) < 2000000
-}
-
-pub(crate) fn above_max(v: View) -> bool
-    ensures { λ r. ⌜ r ≡ aboveMax v ⌝ }
-{
-    above(v.base.lock.statistics, v.settings.max)
-}
-
-pub(crate) fn below_min(v: View) -> bool
-    ensures { λ r. ⌜ r ≡ belowMin v ⌝ }
-{
-    under(v.base.lock.statistics, v.settings.low)
-}
-
 // B has fewer than 2 keys after the operation.
 fn few_then(v: View) -> bool
     ensures { λ r. ⌜ r ≡ ltb (size (keysThen v)) 2 ⌝ }
@@ -93,9 +65,9 @@ fn commits(v: View, p: u8, b: Place) -> Plan
     let before = v.base;
     let t = v.thread;
     let present = keys::has(place::keys_of(before), t.key);
-    let answered = register::set_answer(answer_of(t.operation, present), next, t);
+    let answered = registers::set_answer(answer_of(t.operation, present), next, t);
     Plan {
-        thread: register::at_phase(p, answered),
+        thread: registers::at_phase(p, answered),
         root: v.root,
         made: v.made,
         committed: next,
@@ -110,13 +82,13 @@ pub(crate) fn decides(v: View, b: Place) -> Plan
     requires { ⌜ v .committed < v .begun ⌝ }
     ensures { λ r. ⌜ r ≡ decides v b ⌝ }
 {
-    if above_max(v) {
+    if ready::above_max(v) {
         if few_then(v) {
             return commits(v, 25, place::zero(b));
         }
         return commits(v, 6, b);
     }
-    if below_min(v) {
+    if ready::below_min(v) {
         let p = v.thread.prev;
         if p == 128 {
             return commits(v, 25, place::zero(b));

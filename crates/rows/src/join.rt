@@ -3,7 +3,6 @@ use crate::neighbour;
 use crate::plan;
 use nodes::lock;
 use nodes::place;
-use nodes::register;
 use rules::row::Plan;
 use rules::row::View;
 ghost use mathlib.Core.Path.{_≡_};
@@ -33,11 +32,11 @@ pub(crate) fn row_15(v: View) -> Plan
 {
     let t = v.thread;
     let root = v.root;
-    let u = register::set_walk(root, register::set_grandparent(128, t));
+    let u = registers::set_walk(root, registers::set_grandparent(128, t));
     if root == t.prev {
-        return plan::only(v, register::at_phase(19, u));
+        return plan::only(v, registers::at_phase(19, u));
     }
-    plan::only(v, register::at_phase(16, u))
+    plan::only(v, registers::at_phase(16, u))
 }
 
 // G = walk, walk = its child by P's key.
@@ -46,11 +45,11 @@ pub(crate) fn row_16(v: View) -> Plan
 {
     let t = v.thread;
     let next = towards_prev(v);
-    let u = register::set_walk(next, register::set_grandparent(t.walk, t));
+    let u = registers::set_walk(next, registers::set_grandparent(t.walk, t));
     if next == t.prev {
-        return plan::only(v, register::at_phase(17, u));
+        return plan::only(v, registers::at_phase(17, u));
     }
-    plan::only(v, register::at_phase(16, u))
+    plan::only(v, registers::at_phase(16, u))
 }
 
 // G free: take; held: waits.
@@ -64,7 +63,7 @@ pub(crate) fn row_17(v: View) -> Plan
         let taken = lock::try_lock(v.me, l);
         return plan::stores_1(
             v,
-            register::at_phase(18, t),
+            registers::at_phase(18, t),
             plan::at(t.grandparent, place::with_lock(taken, g)),
         );
     }
@@ -82,7 +81,7 @@ pub(crate) fn row_18(v: View) -> Plan
     }
     plan::stores_1(
         v,
-        register::at_phase(15, t),
+        registers::at_phase(15, t),
         plan::at(t.grandparent, place::release(g)),
     )
 }
@@ -95,7 +94,7 @@ pub(crate) fn row_19(v: View) -> Plan
     let g = v.grandparent;
     plan::hangs(
         v,
-        register::at_phase(20, t),
+        registers::at_phase(20, t),
         far_child(v),
         t.prev,
         t.grandparent,
@@ -111,7 +110,7 @@ pub(crate) fn row_20(v: View) -> Plan
     let q = v.prev;
     let g = v.grandparent;
     let stored = plan::at(t.prev, place::release(q));
-    let u = register::at_phase(21, t);
+    let u = registers::at_phase(21, t);
     if t.grandparent == 128 {
         return plan::stores_2(v, u, stored, plan::no_store());
     }
@@ -127,10 +126,10 @@ pub(crate) fn row_21(v: View) -> Plan
     if far == t.neighbour {
         return plan::only(
             v,
-            register::at_phase(23, register::set_walk(t.grandparent, t)),
+            registers::at_phase(23, registers::set_walk(t.grandparent, t)),
         );
     }
-    plan::only(v, register::at_phase(22, register::set_walk(far, t)))
+    plan::only(v, registers::at_phase(22, registers::set_walk(far, t)))
 }
 
 // Walk's near-way child a base: nothing changes; else walk = that child.
@@ -140,8 +139,8 @@ pub(crate) fn row_22(v: View) -> Plan
     let t = v.thread;
     let p = v.reached;
     if place::is_route(p) {
-        let u = register::set_walk(neighbour::near_child(v), t);
-        return plan::only(v, register::at_phase(22, u));
+        let u = registers::set_walk(neighbour::near_child(v), t);
+        return plan::only(v, registers::at_phase(22, u));
     }
     plan::goes(v, 23)
 }
@@ -152,7 +151,8 @@ pub(crate) fn row_23(v: View) -> Plan
 {
     let t = v.thread;
     let w = v.walk;
-    plan::hangs(v, register::at_phase(24, t), t.made, t.neighbour, t.walk, w)
+    let u = registers::at_phase(24, t);
+    plan::hangs(v, u, t.made, t.neighbour, t.walk, w)
 }
 
 // Release N.
@@ -163,7 +163,7 @@ pub(crate) fn row_24(v: View) -> Plan
     let n = v.neighbour;
     plan::stores_1(
         v,
-        register::at_phase(25, t),
+        registers::at_phase(25, t),
         plan::at(t.neighbour, place::release(n)),
     )
 }
@@ -176,7 +176,7 @@ pub(crate) fn row_25(v: View) -> Plan
     let b = v.base;
     plan::stores_1(
         v,
-        register::fresh_thread(),
+        registers::fresh_thread(),
         plan::at(t.base, place::release(b)),
     )
 }

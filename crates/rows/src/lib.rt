@@ -1,9 +1,8 @@
-// The phase table in code: the plan of a step from what it reads, and whether it is stuck.
+// The phase table in code: the plan of a step from what it reads.
 mod commit;
 mod join;
 mod neighbour;
 pub mod phase;
 mod plan;
-pub mod ready;
 mod search;
 mod split;

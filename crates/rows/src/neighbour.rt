@@ -2,7 +2,6 @@
 use crate::plan;
 use nodes::lock;
 use nodes::place;
-use nodes::register;
 use rules::row::Plan;
 use rules::row::View;
 use rules::state::Body;
@@ -36,7 +35,7 @@ pub(crate) fn row_9(v: View) -> Plan
     let t = v.thread;
     let q = v.prev;
     let far = far_side(v);
-    plan::seeks(v, register::set_side(far, t), place::child_on(far, q))
+    plan::seeks(v, registers::set_side(far, t), place::child_on(far, q))
 }
 
 // Walk = its child in the near way.
@@ -54,19 +53,19 @@ pub(crate) fn row_11(v: View) -> Plan
     let own = v.base;
     let w = v.walk;
     let t = v.thread;
-    let u = register::set_neighbour(t.walk, t);
+    let u = registers::set_neighbour(t.walk, t);
     if place::is_free(w) {
         let l = w.lock;
         let taken = lock::try_lock(v.me, l);
         return plan::stores_1(
             v,
-            register::at_phase(12, u),
+            registers::at_phase(12, u),
             plan::at(t.walk, place::with_lock(taken, w)),
         );
     }
     plan::stores_1(
         v,
-        register::at_phase(25, u),
+        registers::at_phase(25, u),
         plan::at(t.base, place::zero(own)),
     )
 }
@@ -83,14 +82,14 @@ fn no_join(v: View) -> Plan
     if t.base == t.neighbour {
         return plan::stores_2(
             v,
-            register::at_phase(25, t),
+            registers::at_phase(25, t),
             stored,
             plan::at(t.base, place::zero(free)),
         );
     }
     plan::stores_2(
         v,
-        register::at_phase(25, t),
+        registers::at_phase(25, t),
         stored,
         plan::at(t.base, place::zero(b)),
     )
@@ -109,7 +108,7 @@ fn join(v: View) -> Plan
     let ks = keys::union(place::keys_of(b), place::keys_of(n));
     let both = place::new_node(Body::Base { keys: ks });
     Plan {
-        thread: register::at_phase(13, register::set_made(at, t)),
+        thread: registers::at_phase(13, registers::set_made(at, t)),
         root: v.root,
         made,
         committed: v.committed,
@@ -145,7 +144,7 @@ pub(crate) fn row_13(v: View) -> Plan
         let taken = lock::try_lock(v.me, l);
         return plan::stores_1(
             v,
-            register::at_phase(14, t),
+            registers::at_phase(14, t),
             plan::at(t.prev, place::with_lock(taken, q)),
         );
     }
@@ -162,7 +161,7 @@ pub(crate) fn row_14(v: View) -> Plan
     let t = v.thread;
     plan::stores_3(
         v,
-        register::at_phase(15, t),
+        registers::at_phase(15, t),
         plan::at(t.prev, place::invalid(q)),
         plan::at(t.neighbour, place::invalid(n)),
         plan::at(t.base, place::invalid(b)),

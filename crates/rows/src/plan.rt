@@ -1,6 +1,5 @@
 // What a row changes, put together.
 use nodes::place;
-use nodes::register;
 use rules::row::Plan;
 use rules::row::Store;
 use rules::row::View;
@@ -72,7 +71,7 @@ pub(crate) fn goes(v: View, p: u8) -> Plan
     ensures { λ r. ⌜ r ≡ goes v p ⌝ }
 {
     let t = v.thread;
-    only(v, register::at_phase(p, t))
+    only(v, registers::at_phase(p, t))
 }
 
 // `new` takes the place of `x` under the route `q`, whose number is `y`, or as root if `y` is none.
@@ -98,11 +97,11 @@ pub(crate) fn searches(v: View, t: Thread, w: u8) -> Plan
     ensures { λ r. ⌜ r ≡ searches v t w ⌝ }
 {
     let p = v.reached;
-    let u = register::set_walk(w, t);
+    let u = registers::set_walk(w, t);
     if place::is_route(p) {
-        return only(v, register::at_phase(2, u));
+        return only(v, registers::at_phase(2, u));
     }
-    only(v, register::at_phase(3, register::set_base(w, u)))
+    only(v, registers::at_phase(3, registers::set_base(w, u)))
 }
 
 // The walk to the neighbour goes to `w`.
@@ -110,9 +109,9 @@ pub(crate) fn seeks(v: View, t: Thread, w: u8) -> Plan
     ensures { λ r. ⌜ r ≡ seeks v t w ⌝ }
 {
     let p = v.reached;
-    let u = register::set_walk(w, t);
+    let u = registers::set_walk(w, t);
     if place::is_route(p) {
-        return only(v, register::at_phase(10, u));
+        return only(v, registers::at_phase(10, u));
     }
-    only(v, register::at_phase(11, u))
+    only(v, registers::at_phase(11, u))
 }

@@ -3,7 +3,6 @@ use crate::commit;
 use crate::plan;
 use nodes::lock;
 use nodes::place;
-use nodes::register;
 use rules::row::Plan;
 use rules::row::View;
 ghost use mathlib.Core.Path.{_≡_};
@@ -16,7 +15,7 @@ pub(crate) fn row_1(v: View) -> Plan
     ensures { λ r. ⌜ r ≡ row1 v ⌝ }
 {
     let t = v.thread;
-    plan::searches(v, register::set_prev(128, t), v.root)
+    plan::searches(v, registers::set_prev(128, t), v.root)
 }
 
 // Prev = walk, walk = its child by the operation's key.
@@ -25,7 +24,7 @@ pub(crate) fn row_2(v: View) -> Plan
 {
     let t = v.thread;
     let w = v.walk;
-    plan::searches(v, register::set_prev(t.walk, t), place::child_by(t.key, w))
+    plan::searches(v, registers::set_prev(t.walk, t), place::child_by(t.key, w))
 }
 
 // B free: take.
@@ -40,7 +39,7 @@ pub(crate) fn row_3(v: View) -> Plan
         let taken = lock::take_free(v.me, c, l);
         return plan::stores_1(
             v,
-            register::at_phase(5, t),
+            registers::at_phase(5, t),
             plan::at(t.base, place::with_lock(taken, b)),
         );
     }
@@ -59,7 +58,7 @@ pub(crate) fn row_4(v: View) -> Plan
         let taken = lock::take_contended(v.me, c, l);
         return plan::stores_1(
             v,
-            register::at_phase(5, t),
+            registers::at_phase(5, t),
             plan::at(t.base, place::with_lock(taken, b)),
         );
     }
@@ -80,7 +79,7 @@ pub(crate) fn row_5(v: View) -> Plan
     }
     plan::stores_1(
         v,
-        register::at_phase(1, t),
+        registers::at_phase(1, t),
         plan::at(t.base, place::release(b)),
     )
 }

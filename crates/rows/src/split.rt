@@ -1,7 +1,6 @@
 // The rows of a split: phases 6 to 8.
 use crate::plan;
 use nodes::place;
-use nodes::register;
 use rules::row::Plan;
 use rules::row::View;
 use rules::state::Body;
@@ -17,7 +16,7 @@ fn no_split(v: View) -> Plan
     let t = v.thread;
     plan::stores_1(
         v,
-        register::at_phase(25, t),
+        registers::at_phase(25, t),
         plan::at(t.base, place::zero(b)),
     )
 }
@@ -43,7 +42,7 @@ fn split(v: View) -> Plan
     });
     let top = place::new_node(Body::Route { key, left, right });
     Plan {
-        thread: register::at_phase(7, register::set_made(route, t)),
+        thread: registers::at_phase(7, registers::set_made(route, t)),
         root: v.root,
         made,
         committed: v.committed,
@@ -70,7 +69,7 @@ pub(crate) fn row_7(v: View) -> Plan
 {
     let t = v.thread;
     let q = v.prev;
-    plan::hangs(v, register::at_phase(8, t), t.made, t.base, t.prev, q)
+    plan::hangs(v, registers::at_phase(8, t), t.made, t.base, t.prev, q)
 }
 
 // B invalid.
@@ -81,7 +80,7 @@ pub(crate) fn row_8(v: View) -> Plan
     let t = v.thread;
     plan::stores_1(
         v,
-        register::at_phase(25, t),
+        registers::at_phase(25, t),
         plan::at(t.base, place::invalid(b)),
     )
 }

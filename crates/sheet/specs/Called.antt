@@ -1,6 +1,6 @@
 -- What the contract of a line call says: its answer and every byte of the room.
 use mathlib.Core.List.{List}
-use mathlib.Core.Path.{_≡_, refl}
+use mathlib.Core.Path.{_≡_, refl, sym, _∙_}
 use Prim.Native.Nat.{ℕ, _≤_}
 use native.Mathlib.Omega.{arith}
 use borrow.Author.Tests.{le-ltb}
@@ -18,6 +18,10 @@ answer number size s = record { number = number; length = size; state = s }
 pub record Called (p : Played) (l : List ℕ) (r : Answer) (l′ : List ℕ) : Type 0 where
   pub reply : r ≡ answer (p .number) (length (p .sheet)) (p .state)
   pub bytes : l′ ≡ sets l 0 (p .sheet)
+
+-- two answers that the same line call allows are equal, and so is each byte of the room
+pub called-same : {p : Played} {l l₁ l₂ : List ℕ} {a₁ a₂ : Answer} → Called p l a₁ l₁ → Called p l a₂ l₂ → (a₁ ≡ a₂) × (l₁ ≡ l₂)
+called-same c d = (c .reply ∙ sym (d .reply), c .bytes ∙ sym (d .bytes))
 
 -- a line that fits was written
 pub called-line : {l l′ : List ℕ} {r : ℕ} (n : ℕ) (s : State) (most : ℕ) (line : List ℕ) → Wrote l 0 (fitted most (length l) line) r l′

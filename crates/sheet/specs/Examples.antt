@@ -12,7 +12,7 @@ use Rattle.rules.specs.Range.{settingsInRange, bodyInRange, placeInRange, regis
 use Rattle.rules.specs.Step.{zeroSettings, freshOf, begun, beginOf, viewBefore, nextOf, viewOf, put, apply, after, replyOf, stepOf, steps, runOf}
 use Rattle.rules.specs.List.{unmet, again, meets, lists, gather, reached, keyListOf}
 use Rattle.text.specs.Text.{onto, fields, lines, isLetter, digits, isNumber, valueFrom, value, decimalOf, decimal, tabbed, sheetLine, commas, keysText, keysLine}
-use Rattle.sheet.specs.Form.{isBelow, isMin, lowOf, isFirst, settingsOf, settingsForm, ranged, firstForm, isOperation, operationOf, isBegin, isSteps, lineForm}
+use Rattle.forms.specs.Form.{isBelow, isMin, lowOf, isFirst, settingsOf, settingsForm, ranged, firstForm, isOperation, operationOf, isBegin, isSteps, lineForm}
 use Rattle.sheet.specs.Sheet.{refusal, beginLine, runLine, playForm, lineOf, endText, endForm, endOf, firstPlayed, firstOf, playLines, playFirst, playAll, sheetOf}
 
 pub record Example : Type 0 where

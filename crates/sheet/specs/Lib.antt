@@ -1,4 +1,3 @@
-pub mod Form
 pub mod Sheet
 pub mod Called
 pub mod Examples

@@ -16,9 +16,9 @@ use Rattle.rules.specs.declared.answer.Run.{Run}
 use Rattle.rules.specs.declared.answer.RunReply as RunReply
 use Rattle.rules.specs.declared.answer.ListReply as ListReply
 use Rattle.text.specs.Text.{lines, sheetLine, keysLine}
-use Rattle.sheet.specs.Form.{firstForm, lineForm}
-use Rattle.sheet.specs.declared.form.First as First
-use Rattle.sheet.specs.declared.form.Line as Line
+use Rattle.forms.specs.Form.{firstForm, lineForm}
+use Rattle.forms.specs.declared.First as First
+use Rattle.forms.specs.declared.Line as Line
 
 -- what a line call does: the refusal number or 0, the state after, and the sheet line, which is empty where nothing is written
 pub record Played : Type 0 where

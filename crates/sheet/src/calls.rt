@@ -1,6 +1,6 @@
 // The line calls: a schedule line in, its sheet line out at the front of lent room. A line is passed without its newline.
-use crate::form::First;
-use crate::form::Line;
+use forms::First;
+use forms::Line;
 use rules::answer::BeginReply;
 use rules::answer::ListReply;
 use rules::answer::RunReply;
@@ -43,7 +43,7 @@ fn wrote(s: State, letter: u8, numbers: &[u32], room: &mut [u8]) -> Answer
     requires { ⌜ (length (now numbers) ≤ 4) × (256 ≤ length (now room)) ⌝ }
     ensures { λ r. ⌜ Called (wrote s (sheetLine letter (now (numbers .entry)))) (now (room .entry)) r (now (room .exit)) ⌝ }
 {
-    let length = text::write::put_line(&mut *room, letter, numbers);
+    let length = writing::put_line(&mut *room, letter, numbers);
     Answer {
         number: 0,
         length,
@@ -57,7 +57,7 @@ fn refused(s: State, number: u8, room: &mut [u8]) -> Answer
     ensures { λ r. ⌜ Called (refused s number) (now (room .entry)) r (now (room .exit)) ⌝ }
 {
     let numbers = [number as u32];
-    let length = text::write::put_line(&mut *room, 88, &numbers);
+    let length = writing::put_line(&mut *room, 88, &numbers);
     Answer {
         number,
         length,
@@ -70,7 +70,7 @@ fn begin_line(s: State, t: u32, o: u32, k: u32, room: &mut [u8]) -> Answer
     requires { ⌜ 256 ≤ length (now room) ⌝ }
     ensures { λ r. ⌜ Called (beginLine t (beginOf s t o k .state) (beginOf s t o k .reply)) (now (room .entry)) r (now (room .exit)) ⌝ }
 {
-    let begin = machine::calls::begin(s, t, o, k);
+    let begin = beginning::begin(s, t, o, k);
     let reply = begin.reply;
     let u = begin.state;
     match reply {
@@ -114,13 +114,7 @@ fn keys_line(s: State, reply: ListReply, room: &mut [u8]) -> Answer
 {
     match reply {
         ListReply::Keys { keys } => {
-            let length = text::write::put_keys_line(
-                &mut *room,
-                69,
-                s.committed,
-                s.made as u32,
-                keys,
-            );
+            let length = writing::put_keys_line(&mut *room, 69, s.committed, s.made as u32, keys);
             Answer {
                 number: 0,
                 length,
@@ -136,7 +130,7 @@ fn fresh_state(c: Settings) -> State
     requires { ⌜ settingsInRange c ≡ true ⌝ }
     ensures { λ r. ⌜ r ≡ fresh c ⌝ }
 {
-    let made = machine::calls::fresh(c.succ, c.fail, c.low, c.max);
+    let made = beginning::fresh(c.succ, c.fail, c.low, c.max);
     made.state
 }
 
@@ -159,7 +153,7 @@ pub fn settings_line(line: &[u8], room: &mut [u8]) -> Answer
     if room.len() < LEAST_ROOM {
         return silent(no_state(), 9);
     }
-    let form = crate::form::first_form(line);
+    let form = forms::first_form(line);
     match form {
         First::Settings { settings } => wrote(fresh_state(settings), 82, &[], &mut *room),
         First::Slip => refused(no_state(), 2, &mut *room),
@@ -173,10 +167,10 @@ pub fn line(s: State, line: &[u8], room: &mut [u8]) -> Answer
     if room.len() < LEAST_ROOM {
         return silent(s, 9);
     }
-    if !machine::range::in_range(s) {
+    if !range::in_range(s) {
         return silent(s, 7);
     }
-    let form = crate::form::line_form(line);
+    let form = forms::line_form(line);
     match form {
         Line::Begin {
             thread,
@@ -195,9 +189,9 @@ pub fn end_line(s: State, room: &mut [u8]) -> Answer
     if room.len() < LEAST_ROOM {
         return silent(s, 9);
     }
-    if !machine::range::in_range(s) {
+    if !range::in_range(s) {
         return silent(s, 7);
     }
-    let reply = machine::list::key_list(s);
+    let reply = listing::key_list(s);
     keys_line(s, reply, &mut *room)
 }

@@ -1,3 +1,2 @@
 // Schedule lines in, sheet lines out.
 pub mod calls;
-pub mod form;

@@ -9,7 +9,7 @@ use borrow.Author.Tests.{lt-ltb, le-ltb, leb-true}
 use lib.Dec.{ltb, leb, eqb, leb·suc-suc}
 use lib.ListN.{length, getD, take, drop, length-drop}
 use lib.Seq.{drop-cons, take-all}
-use Rattle.text.specs.declared.read.Number as Number
+use Rattle.text.specs.declared.Number as Number
 use Rattle.text.specs.Text.{tab, newline, until, onto, fields, lines, digits, isNumber, valueFrom, valueIf}
 
 -- ---- the first b

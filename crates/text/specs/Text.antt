@@ -7,7 +7,7 @@ use lib.Dec.{ltb, leb, eqb}
 use lib.ListN.{length, getD}
 use lib.Seq.{sets}
 use Rattle.keys.specs.Keys.{has}
-use Rattle.text.specs.declared.read.Number as Number
+use Rattle.text.specs.declared.Number as Number
 
 -- "Fields are parted by one tab"
 abbrev pub tab : ℕ
@@ -72,6 +72,11 @@ valueIf t v = cond t (Number.the-variants.Value v) Number.the-variants.Slip
 -- what a part says as a number
 abbrev pub numberOf : List ℕ → Number.Number
 numberOf f = valueIf (isNumber f) (value f)
+
+-- the value that was read; none in a slip, which is refusal 1 in a line, 2 in the first line
+abbrev pub numberValues : Number.Number → List ℕ
+numberValues (Number.the-variants.Value v) = v ∷ []
+numberValues Number.the-variants.Slip = []
 
 -- ---- writing
 

@@ -1,7 +1,7 @@
 -- Laws of writing: how writes join, and the lengths of what is written.
 use mathlib.Core.Bool.{Bool, true, false, cond}
 use mathlib.Core.List.{List, [], _∷_, _++_}
-use mathlib.Core.Path.{_≡_, refl, _∙_}
+use mathlib.Core.Path.{_≡_, refl, sym, _∙_}
 use Prim.Native.Nat.{ℕ, zero, suc, _+_, _-_, _/_, _%_, _≤_, _<_}
 use native.Mathlib.Nat.{add-zero}
 use native.Mathlib.Numerals.{add-one}
@@ -24,6 +24,10 @@ wrote-none l at = record { next = omega arith; bytes = refl }
 
 pub wrote-byte : (l : List ℕ) (at b : ℕ) → Wrote l at (b ∷ []) (at + 1) (set l at b)
 wrote-byte l at b = record { next = refl; bytes = refl }
+
+-- two replies that the same write allows are equal, and so is each byte of the room
+pub wrote-same : {l l₁ l₂ xs : List ℕ} {at r₁ r₂ : ℕ} → Wrote l at xs r₁ l₁ → Wrote l at xs r₂ l₂ → (r₁ ≡ r₂) × (l₁ ≡ l₂)
+wrote-same v w = (v .next ∙ sym (w .next), v .bytes ∙ sym (w .bytes))
 
 -- a write, and one right behind it
 pub wrote-both : {l k l′ xs ys : List ℕ} {at m r : ℕ} → Wrote l at xs m k → Wrote k m ys r l′ → Wrote l at (xs ++ ys) r l′

@@ -10,7 +10,7 @@ use Rattle.rules.specs.State.{threadAt}
 use Rattle.rules.specs.Rows.{planOf, stuck}
 use Rattle.states.specs.Waits.{waits, waits-steps}
 use Rattle.rules.specs.Step.{viewOf, apply, after, steps}
-use Rattle.machine.proofs.Commits.{can-commit}
+use Rattle.machine.specs.Commits.{can-commit}
 use Rattle.machine.proofs.Steps.{all-taken, is-stuck, has-ended, goes-on}
 use Rattle.machine.proofs.run.take_steps.Statement.{statement}
 use Rattle.machine.proofs.run.take_steps.Tie as tie

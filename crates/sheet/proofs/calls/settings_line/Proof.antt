@@ -2,7 +2,7 @@
 use mathlib.Core.Path.{sym, _∙_}
 use borrow.Author.Tests.{lt-ltb, le-ltb}
 use Rattle.sheet.specs.Sheet.{firstPlayed, firstOf}
-use Rattle.sheet.specs.Form.{first-in-range}
+use Rattle.forms.specs.Form.{first-in-range}
 use Rattle.sheet.specs.Called.{called-silent}
 use borrow.Author.Needs.{needs}
 use Rattle.sheet.proofs.calls.settings_line.Statement.{statement}

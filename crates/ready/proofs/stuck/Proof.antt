@@ -1,0 +1,76 @@
+-- `ready::stuck` meets its contract: each group of phases by its own function.
+use mathlib.Core.Path.{sym, ap}
+use mathlib.Core.Bool.{not}
+use native.Mathlib.Omega.{arith}
+use borrow.Author.Needs.{needs}
+use Rattle.rules.specs.Rows.{needs as rowNeeds, stuck}
+use Rattle.ready.proofs.Idle.{ready-idle, ready-past}
+use Rattle.ready.proofs.stuck.Statement.{statement}
+use Rattle.ready.proofs.stuck.Tie as tie
+
+base-b-requires : tie.Need-base-b-requires
+base-b-requires c κs = search needs
+
+ready-search-requires : tie.Need-ready-search-requires
+ready-search-requires c κs = search needs
+
+ready-split-requires : tie.Need-ready-split-requires
+ready-split-requires c κs = search needs
+
+ready-neighbour-requires : tie.Need-ready-neighbour-requires
+ready-neighbour-requires c κs = search needs
+
+ready-splice-requires : tie.Need-ready-splice-requires
+ready-splice-requires c κs = search needs
+
+ready-link-requires : tie.Need-ready-link-requires
+ready-link-requires c κs = search needs
+
+returns : tie.Need-returns
+unfolding stuck rowNeeds
+returns c = simp (c .before .match .keys1, c .base-b .ensures)
+
+returns-2 : tie.Need-returns-2
+unfolding stuck
+returns-2 c = ap not (c .ready-search .ensures)
+
+returns-3 : tie.Need-returns-3
+unfolding stuck
+returns-3 c = ap not (c .ready-split .ensures)
+
+returns-4 : tie.Need-returns-4
+unfolding stuck
+returns-4 c = ap not (c .ready-neighbour .ensures)
+
+returns-5 : tie.Need-returns-5
+unfolding stuck
+returns-5 c = ap not (c .ready-splice .ensures)
+
+returns-6 : tie.Need-returns-6
+unfolding stuck
+returns-6 c = ap not (c .ready-link .ensures)
+
+returns-7 : tie.Need-returns-7
+returns-7 c = sym (ready-idle _ (omega arith))
+
+returns-8 : tie.Need-returns-8
+returns-8 c = sym (ready-past _ (omega arith))
+
+pub stuck-spec : {M : Type 1} → statement M
+stuck-spec =
+    tie.close
+    (tie.spec
+    base-b-requires
+    ready-search-requires
+    ready-split-requires
+    ready-neighbour-requires
+    ready-splice-requires
+    ready-link-requires
+    returns
+    returns-2
+    returns-3
+    returns-4
+    returns-5
+    returns-6
+    returns-7
+    returns-8)

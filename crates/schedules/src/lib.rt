@@ -1,0 +1,1 @@
+// Schedules as runs: theorems only, no function.
