@@ -1,4 +1,2 @@
-// What rows ask of and do to a lock and a place.
-pub mod lent;
-pub mod lock;
+// What rows ask of and do to a place.
 pub mod place;

@@ -1,0 +1,3 @@
+// The two lock rules on the lock record, in code.
+pub mod lent;
+pub mod lock;
