@@ -1,9 +1,9 @@
 -- The walk of the key list, one node at a time.
 use mathlib.Core.Path.{_≡_, refl, sym, ap, _∙_}
-use mathlib.Core.Bool.{Bool, true, false, true≢false, false≢true}
+use mathlib.Core.Bool.{Bool, true, false, true≢false}
 use mathlib.Core.List.{List, [], _∷_}
-use Prim.Native.Nat.{ℕ, zero, suc, _+_, _-_, _%_, _≤_, _<_}
-use native.Mathlib.Nat.{not-suc-le-zero, le-of-suc-le-suc, suc-inj, le-trans}
+use Prim.Native.Nat.{ℕ, zero, suc, _-_, _%_, _≤_, _<_}
+use native.Mathlib.Nat.{not-suc-le-zero, le-of-suc-le-suc}
 use native.Mathlib.Omega.{arith}
 use lib.ListN.{length, getD, set}
 use Rattle.rules.specs.State.{zeroPlace}
@@ -12,6 +12,7 @@ use Rattle.rules.specs.declared.state.Body.{Body}
 use Rattle.rules.specs.declared.state.Body.the-variants.{Base, Route}
 use Rattle.rules.specs.declared.state.Place.{Place}
 use Rattle.rules.specs.declared.list.Met.{Met}
+use Rattle.states.specs.Gather.{entering, enters}
 use Rattle.listing.specs.Gathered.{unseen, Counted, Gathered}
 
 -- a node that is met for the first time is one fewer of those not yet met
@@ -27,41 +28,10 @@ unseen-set (false ∷ l) (suc i) h e = ap suc (unseen-set l i (le-of-suc-le-suc 
 pub in-list : (n : ℕ) (l : List Bool) → length l ≡ 128 → n % 128 < length l
 in-list n l e = omega arith
 
--- what the walk does at node n, by what it finds there
-outcome : ℕ → List Place → ℕ → Met → Bool → Bool → Body → Met
-outcome d ps n m true c x = m
-outcome d ps n m false true x = again m
-outcome d ps n m false false (Base ks) = lists ks (meets (n % 128) m)
-outcome d ps n m false false (Route k l r) = gather d ps r (gather d ps l (meets (n % 128) m))
-
-gather-tests : (d : ℕ) (ps : List Place) (n : ℕ) (m : Met)
-    → gather (suc d) ps n m ≡ outcome d ps n m (m .twice) (getD (m .seen) (n % 128) false) (getD ps (n % 128) zeroPlace .body)
-unfolding gather outcome
-gather-tests d ps n m = go (m .twice) (getD (m .seen) (n % 128) false) (getD ps (n % 128) zeroPlace .body)
-  where
-    go : (b c : Bool) (x : Body)
-        → (elim b as (λ y. Met) [
-          | true ↦ m
-          | false ↦
-              elim c as (λ y. Met) [
-                | true ↦ again m
-                | false ↦
-                    elim x as (λ y. Met) [
-                      | Base ks ↦ lists ks (meets (n % 128) m)
-                      | Route k l r ↦ gather d ps r (gather d ps l (meets (n % 128) m))
-                    ]
-              ]
-        ])
-        ≡ outcome d ps n m b c x
-    go true c x = refl
-    go false true x = refl
-    go false false (Base ks) = refl
-    go false false (Route k l r) = refl
-
 module _ (ps : List Place) (n : ℕ) (m : Met) (right : Counted m) where
   found : (b c : Bool) (x : Body) → m .twice ≡ b → getD (m .seen) (n % 128) false ≡ c → getD ps (n % 128) zeroPlace .body ≡ x
-      → (d : ℕ) → gather (suc d) ps n m ≡ outcome d ps n m b c x
-  found b c x e f g d = rw (gather-tests d ps n m, e, f, g)
+      → (d : ℕ) → gather (suc d) ps n m ≡ entering d ps n m b c x
+  found b c x e f g d = rw (enters d ps n m, e, f, g)
 
   -- one call deeper is enough
   deeper : (r : Met) → ((d : ℕ) → m .left ≤ d → r ≡ gather (suc d) ps n m) → (d : ℕ) → m .left < d → r ≡ gather d ps n m
@@ -70,13 +40,13 @@ module _ (ps : List Place) (n : ℕ) (m : Met) (right : Counted m) where
 
   -- a node was met twice before
   pub stays : m .twice ≡ true → Gathered ps n m m
-  unfolding outcome
+  unfolding entering
   stays e =
       record { same = deeper m (λ d h. sym (found true _ _ e refl refl d)); falls = omega arith; counted = right }
 
   -- this node was met before
   pub is-again : m .twice ≡ false → getD (m .seen) (n % 128) false ≡ true → Gathered ps n m (again m)
-  unfolding outcome again
+  unfolding entering again
   is-again e f =
       record {
         same = deeper (again m) (λ d h. sym (found false true _ e f refl d));
@@ -99,7 +69,7 @@ module _ (ps : List Place) (n : ℕ) (m : Met) (right : Counted m) where
 
     -- a base: its keys are listed
     pub is-base : (ks : ℕ) → m .twice ≡ false → getD ps (n % 128) zeroPlace .body ≡ Base ks → Gathered ps n m (lists ks (meets (n % 128) m))
-    unfolding outcome lists meets
+    unfolding entering lists meets
     is-base ks e g =
         record {
           same = deeper (lists ks (meets (n % 128) m)) (λ d h. sym (found false false (Base ks) e first g d));
@@ -110,7 +80,7 @@ module _ (ps : List Place) (n : ℕ) (m : Met) (right : Counted m) where
     -- a route: the left child, then the right
     pub is-route : (k l r : ℕ) (x y : Met) → m .twice ≡ false → getD ps (n % 128) zeroPlace .body ≡ Route k l r
         → Gathered ps l (meets (n % 128) m) x → Gathered ps r x y → Gathered ps n m y
-    unfolding outcome
+    unfolding entering
     is-route k l r x y e g p q =
         record {
           same =

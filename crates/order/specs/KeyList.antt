@@ -11,13 +11,14 @@ use Rattle.keys.specs.Keys.{has}
 use Rattle.keys.specs.Laws.{has-union, has-none}
 use Rattle.rules.specs.State.{zeroPlace, threadAt}
 use Rattle.rules.specs.Places.{keysOfBody}
-use Rattle.rules.specs.List.{unmet, again, meets, lists, gather, reached}
+use Rattle.rules.specs.List.{unmet, meets, lists, gather, reached}
 use Rattle.rules.specs.declared.state.Body.{Body}
 use Rattle.rules.specs.declared.state.Body.the-variants.{Base, Route}
 use Rattle.rules.specs.declared.state.Place.{Place}
 use Rattle.rules.specs.declared.state.State.{State}
 use Rattle.rules.specs.declared.list.Met.{Met}
 use Rattle.states.specs.Lists.{each-replicate}
+use Rattle.states.specs.Gather.{entering, enters}
 use Rattle.graph.specs.Cases.{is, Same, same, apart, compared, is-same, is-some}
 use Rattle.graph.specs.Walk.{Cell, kid}
 use Rattle.graph.specs.Tree.{Tree, tip, fork, label, count, Shape, leaf, branch, Once, label-in, tip-count, Stands, top, inL, inR, stands}
@@ -29,37 +30,6 @@ use Rattle.order.specs.Invariant.{Invariant}
 unfoldable pub keysIn : (ℕ → ℕ) → Tree → ℕ → Bool
 keysIn ks (tip n) j = has (ks n) j
 keysIn ks (fork n l r) j = keysIn ks l j || keysIn ks r j
-
--- the walk at a node, by the answers to its three questions
-unfoldable pub entering : ℕ → List Place → ℕ → Met → Bool → Bool → Body → Met
-entering d ps n m true b c = m
-entering d ps n m false true c = again m
-entering d ps n m false false (Base ks) = lists ks (meets (n % 128) m)
-entering d ps n m false false (Route k l r) = gather d ps r (gather d ps l (meets (n % 128) m))
-
-pub enters : (d : ℕ) (ps : List Place) (n : ℕ) (m : Met)
-    → gather (suc d) ps n m ≡ entering d ps n m (m .twice) (getD (m .seen) (n % 128) false) (getD ps (n % 128) zeroPlace .body)
-unfolding gather entering
-enters d ps n m = go (m .twice) (getD (m .seen) (n % 128) false) (getD ps (n % 128) zeroPlace .body)
-  where
-    go : (a b : Bool) (c : Body)
-        → elim a as (λ x. Met) [
-          | true ↦ m
-          | false ↦
-              elim b as (λ x. Met) [
-                | true ↦ again m
-                | false ↦
-                    elim c as (λ x. Met) [
-                      | Base ks ↦ lists ks (meets (n % 128) m)
-                      | Route k l r ↦ gather d ps r (gather d ps l (meets (n % 128) m))
-                    ]
-              ]
-        ]
-        ≡ entering d ps n m a b c
-    go true b c = refl
-    go false true c = refl
-    go false false (Base ks) = refl
-    go false false (Route k l r) = refl
 
 -- met for the first time
 entered : (d : ℕ) (ps : List Place) (n : ℕ) (m : Met) (c : Body) → n < summit → m .twice ≡ false → getD (m .seen) n false ≡ false

@@ -20,12 +20,13 @@ use Rattle.rules.specs.declared.state.State.{State}
 use Rattle.rules.specs.declared.list.Met.{Met}
 use Rattle.rules.specs.declared.answer.ListReply.the-variants.{Keys}
 use Rattle.states.specs.Tests.{pick}
+use Rattle.states.specs.Gather.{entering, enters}
 use Rattle.states.specs.Whole.{HasSet, Whole, fresh-whole, begin-whole, step-whole}
 use Rattle.states.specs.Kept.{fresh-in-range, begin-in-range, step-in-range}
 use Rattle.runs.specs.Calls.{Call, begins, steps, afterCall, afterCalls}
 use Rattle.runs.specs.Log.{Entry, logOf, playLog}
 use Rattle.runs.specs.Holders.{Quiet}
-use Rattle.order.specs.KeyList.{entering, enters, reached-once}
+use Rattle.order.specs.KeyList.{reached-once}
 use Rattle.plain.specs.Plain.{Plain}
 use Rattle.plain.specs.Listed.{retiredIn, retired, plain-keys}
 use Rattle.plain.specs.Runs.{plainAfter, run-plain}

@@ -1,5 +1,6 @@
 pub mod Tests
 pub mod Lists
+pub mod Gather
 pub mod Phase
 pub mod Calls
 pub mod Waits
