@@ -1,7 +1,7 @@
 // The rows of a join from the search for G to the link, and the end: phases 15 to 25.
 use crate::neighbour;
 use crate::plan;
-use locks::lock;
+use nodes::lock;
 use nodes::place;
 use rules::row::Plan;
 use rules::row::View;

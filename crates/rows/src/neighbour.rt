@@ -1,6 +1,6 @@
 // The rows of a join up to its made base: phases 9 to 14.
 use crate::plan;
-use locks::lock;
+use nodes::lock;
 use nodes::place;
 use rules::row::Plan;
 use rules::row::View;

@@ -1,7 +1,7 @@
 // The rows of the search: phases 1 to 5.
 use crate::commit;
 use crate::plan;
-use locks::lock;
+use nodes::lock;
 use nodes::place;
 use rules::row::Plan;
 use rules::row::View;

@@ -1,7 +1,7 @@
--- `locks::lock::take_contended` meets its contract.
+-- `nodes::lock::take_contended` meets its contract.
 use borrow.Author.Needs.{needs}
-use Rattle.locks.proofs.lock.take_contended.Statement.{statement}
-use Rattle.locks.proofs.lock.take_contended.Tie as tie
+use Rattle.nodes.proofs.lock.take_contended.Statement.{statement}
+use Rattle.nodes.proofs.lock.take_contended.Tie as tie
 
 more-requires : tie.Need-more-requires
 more-requires c κs = search needs
