@@ -1,19 +1,26 @@
-// The two lock rules, on the lock record.
+// The two lock rules, on the lock record, which taking and releasing lend to `take` and `release`.
+use crate::lent;
 use rules::state::Lock;
 use rules::state::Settings;
 ghost use mathlib.Core.Path.{_≡_};
 ghost use Prim.Native.Nat.{_+_, _-_, min};
 ghost use Rattle.rules.specs.State.{topStatistics};
-ghost use Rattle.rules.specs.Places.{tried, taken3, taken4, released, zeroed};
+ghost use Rattle.rules.specs.Places.{taken, tried, taken3, taken4, released, zeroed};
+
+// A taking that leaves these statistics.
+fn taken(l: Lock, me: u8, n: u32) -> Lock
+    ensures { λ r. ⌜ r ≡ taken me n ⌝ }
+{
+    let mut m = l;
+    lent::take(&mut m, me, n);
+    m
+}
 
 // A taking that changes no statistics: a try on a neighbour, and route locks.
 pub fn try_lock(me: u8, l: Lock) -> Lock
     ensures { λ r. ⌜ r ≡ tried me l ⌝ }
 {
-    Lock {
-        holder: me,
-        statistics: l.statistics,
-    }
+    taken(l, me, l.statistics)
 }
 
 // Statistics less succ, down to the lower stop.
@@ -44,10 +51,7 @@ pub fn take_free(me: u8, c: Settings, l: Lock) -> Lock
     ensures { λ r. ⌜ r ≡ taken3 me c l ⌝ }
 {
     let n = less(l.statistics, c.succ);
-    Lock {
-        holder: me,
-        statistics: n,
-    }
+    taken(l, me, n)
 }
 
 // The taking at phase 4.
@@ -55,20 +59,16 @@ pub fn take_contended(me: u8, c: Settings, l: Lock) -> Lock
     ensures { λ r. ⌜ r ≡ taken4 me c l ⌝ }
 {
     let n = more(l.statistics, c.fail);
-    Lock {
-        holder: me,
-        statistics: n,
-    }
+    taken(l, me, n)
 }
 
 // Releasing sets the holder to none.
 pub fn release_lock(l: Lock) -> Lock
     ensures { λ r. ⌜ r ≡ released l ⌝ }
 {
-    Lock {
-        holder: 8,
-        statistics: l.statistics,
-    }
+    let mut m = l;
+    lent::release(&mut m);
+    m
 }
 
 // Statistics 0.

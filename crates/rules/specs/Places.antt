@@ -71,17 +71,21 @@ isFree p = eqb (p .lock .holder) nobody
 abbrev pub withLock : Lock → Place → Place
 withLock l p = record { lock = l; valid = p .valid; body = p .body }
 
+-- a lock taken: its holder, and the statistics that the taking leaves
+abbrev pub taken : ℕ → ℕ → Lock
+taken me n = record { holder = me; statistics = n }
+
 -- a lock taken with no change of statistics: a try on a neighbour, and route locks
 abbrev pub tried : ℕ → Lock → Lock
-tried me l = record { holder = me; statistics = l .statistics }
+tried me l = taken me (l .statistics)
 
 -- "Taking at phase 3 subtracts succ from the base's statistics", down to the lower stop
 abbrev pub taken3 : ℕ → Settings → Lock → Lock
-taken3 me c l = record { holder = me; statistics = l .statistics - c .succ }
+taken3 me c l = taken me (l .statistics - c .succ)
 
 -- "taking at phase 4 adds fail", up to the upper stop
 abbrev pub taken4 : ℕ → Settings → Lock → Lock
-taken4 me c l = record { holder = me; statistics = min topStatistics (l .statistics + c .fail) }
+taken4 me c l = taken me (min topStatistics (l .statistics + c .fail))
 
 -- "Releasing sets the holder to none"
 abbrev pub released : Lock → Lock

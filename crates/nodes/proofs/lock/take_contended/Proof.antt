@@ -6,8 +6,11 @@ use Rattle.nodes.proofs.lock.take_contended.Tie as tie
 more-requires : tie.Need-more-requires
 more-requires c κs = search needs
 
+taken-requires : tie.Need-taken-requires
+taken-requires c κs = search needs
+
 returns : tie.Need-returns
 returns c = cc
 
 pub take-contended-spec : {M : Type 1} → statement M
-take-contended-spec = tie.close (tie.spec more-requires returns)
+take-contended-spec = tie.close (tie.spec more-requires taken-requires returns)

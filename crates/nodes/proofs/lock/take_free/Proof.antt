@@ -6,8 +6,11 @@ use Rattle.nodes.proofs.lock.take_free.Tie as tie
 less-requires : tie.Need-less-requires
 less-requires c κs = search needs
 
+taken-requires : tie.Need-taken-requires
+taken-requires c κs = search needs
+
 returns : tie.Need-returns
 returns c = cc
 
 pub take-free-spec : {M : Type 1} → statement M
-take-free-spec = tie.close (tie.spec less-requires returns)
+take-free-spec = tie.close (tie.spec less-requires taken-requires returns)

@@ -1,0 +1,2 @@
+pub mod LentLock
+pub mod Names
