@@ -1,5 +1,4 @@
 // The calls that begin: a fresh state, and an operation. Each leaves the state as it came where it refuses.
-use nodes::place;
 use rules::answer::Begin;
 use rules::answer::BeginReply;
 use rules::answer::Fresh;
@@ -32,7 +31,7 @@ fn unmade() -> Place
 fn fresh_state(c: Settings) -> State
     ensures { λ r. ⌜ r ≡ Rattle.rules.specs.State.fresh c ⌝ }
 {
-    let first = place::new_node(Body::Base { keys: 0 });
+    let first = places::new_node(Body::Base { keys: 0 });
     let none = unmade();
     let mut places = [none; 128];
     places[0] = first;

@@ -1,6 +1,5 @@
 // Counted steps: the call behind an `S` line.
 use crate::view;
-use nodes::place;
 use rows::phase;
 use rules::answer::Run;
 use rules::answer::RunReply;
@@ -28,7 +27,9 @@ fn waits(v: View) -> bool
     let b = v.base;
     let q = v.prev;
     let g = v.grandparent;
-    (p == 4) & !place::is_free(b) | (p == 13) & !place::is_free(q) | (p == 17) & !place::is_free(g)
+    (p == 4) & !places::is_free(b)
+        | (p == 13) & !places::is_free(q)
+        | (p == 17) & !places::is_free(g)
 }
 
 // Steps of thread `t` until `n` have been taken or the operation ends. A step that waits changes nothing, so all that are left wait too.

@@ -1,4 +1,3 @@
-// What rows ask of and do to a lock and a place.
+// What rows do to a lock.
 pub mod lent;
 pub mod lock;
-pub mod place;

@@ -1,5 +1,4 @@
 // Whether the step of a thread has what its row needs: a step that has not is stuck.
-use nodes::place;
 use rules::row::View;
 use rules::state::Place;
 ghost use mathlib.Core.Path.{_≡_};
@@ -15,14 +14,14 @@ ghost use Rattle.rules.specs.Rows.{route, base, maybeRoute, routeP, routeG, rou
 fn route(n: u8, p: Place) -> bool
     ensures { λ r. ⌜ r ≡ route n p ⌝ }
 {
-    (n < 128) & place::is_route(p)
+    (n < 128) & places::is_route(p)
 }
 
 // Register `n`, whose place is `p`, names a base.
 fn base(n: u8, p: Place) -> bool
     ensures { λ r. ⌜ r ≡ base n p ⌝ }
 {
-    (n < 128) & !place::is_route(p)
+    (n < 128) & !places::is_route(p)
 }
 
 // Register `n`, whose place is `p`, is none or names a route.
@@ -137,7 +136,7 @@ fn two_keys(v: View) -> bool
     ensures { λ r. ⌜ r ≡ leb 2 (size (keysOf (v .base))) ⌝ }
 {
     let b = v.base;
-    2 <= keys::size(place::keys_of(b))
+    2 <= keys::size(places::keys_of(b))
 }
 
 // Phases 6 to 8.

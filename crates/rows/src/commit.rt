@@ -1,6 +1,5 @@
 // The commit of an operation at phase 5, and the decision that follows.
 use crate::plan;
-use nodes::place;
 use rules::row::Plan;
 use rules::row::View;
 use rules::state::Place;
@@ -46,7 +45,7 @@ pub(crate) fn keys_then(v: View) -> u64
 {
     let b = v.base;
     let t = v.thread;
-    keys_after(t.operation, place::keys_of(b), t.key)
+    keys_after(t.operation, places::keys_of(b), t.key)
 }
 
 // B has fewer than 2 keys after the operation.
@@ -64,7 +63,7 @@ fn commits(v: View, p: u8, b: Place) -> Plan
     let next = v.committed + 1;
     let before = v.base;
     let t = v.thread;
-    let present = keys::has(place::keys_of(before), t.key);
+    let present = keys::has(places::keys_of(before), t.key);
     let answered = registers::set_answer(answer_of(t.operation, present), next, t);
     Plan {
         thread: registers::at_phase(p, answered),
@@ -84,14 +83,14 @@ pub(crate) fn decides(v: View, b: Place) -> Plan
 {
     if ready::above_max(v) {
         if few_then(v) {
-            return commits(v, 25, place::zero(b));
+            return commits(v, 25, places::zero(b));
         }
         return commits(v, 6, b);
     }
     if ready::below_min(v) {
         let p = v.thread.prev;
         if p == 128 {
-            return commits(v, 25, place::zero(b));
+            return commits(v, 25, places::zero(b));
         }
         return commits(v, 9, b);
     }

@@ -2,7 +2,6 @@
 use crate::neighbour;
 use crate::plan;
 use nodes::lock;
-use nodes::place;
 use rules::row::Plan;
 use rules::row::View;
 ghost use mathlib.Core.Path.{_≡_};
@@ -14,7 +13,7 @@ fn far_child(v: View) -> u8
 {
     let q = v.prev;
     let side = v.thread.side;
-    place::child_on(side, q)
+    places::child_on(side, q)
 }
 
 // Walk's child by P's key.
@@ -23,7 +22,7 @@ fn towards_prev(v: View) -> u8
 {
     let q = v.prev;
     let w = v.walk;
-    place::child_by(place::route_key(q), w)
+    places::child_by(places::route_key(q), w)
 }
 
 // G none, walk = root.
@@ -58,13 +57,13 @@ pub(crate) fn row_17(v: View) -> Plan
 {
     let g = v.grandparent;
     let t = v.thread;
-    if place::is_free(g) {
+    if places::is_free(g) {
         let l = g.lock;
         let taken = lock::try_lock(v.me, l);
         return plan::stores_1(
             v,
             registers::at_phase(18, t),
-            plan::at(t.grandparent, place::with_lock(taken, g)),
+            plan::at(t.grandparent, places::with_lock(taken, g)),
         );
     }
     plan::goes(v, 17)
@@ -82,7 +81,7 @@ pub(crate) fn row_18(v: View) -> Plan
     plan::stores_1(
         v,
         registers::at_phase(15, t),
-        plan::at(t.grandparent, place::release(g)),
+        plan::at(t.grandparent, places::release(g)),
     )
 }
 
@@ -109,12 +108,12 @@ pub(crate) fn row_20(v: View) -> Plan
     let t = v.thread;
     let q = v.prev;
     let g = v.grandparent;
-    let stored = plan::at(t.prev, place::release(q));
+    let stored = plan::at(t.prev, places::release(q));
     let u = registers::at_phase(21, t);
     if t.grandparent == 128 {
         return plan::stores_2(v, u, stored, plan::no_store());
     }
-    plan::stores_2(v, u, stored, plan::at(t.grandparent, place::release(g)))
+    plan::stores_2(v, u, stored, plan::at(t.grandparent, places::release(g)))
 }
 
 // P's far child is N: walk = G; else walk = that child.
@@ -138,7 +137,7 @@ pub(crate) fn row_22(v: View) -> Plan
 {
     let t = v.thread;
     let p = v.reached;
-    if place::is_route(p) {
+    if places::is_route(p) {
         let u = registers::set_walk(neighbour::near_child(v), t);
         return plan::only(v, registers::at_phase(22, u));
     }
@@ -164,7 +163,7 @@ pub(crate) fn row_24(v: View) -> Plan
     plan::stores_1(
         v,
         registers::at_phase(25, t),
-        plan::at(t.neighbour, place::release(n)),
+        plan::at(t.neighbour, places::release(n)),
     )
 }
 
@@ -177,6 +176,6 @@ pub(crate) fn row_25(v: View) -> Plan
     plan::stores_1(
         v,
         registers::fresh_thread(),
-        plan::at(t.base, place::release(b)),
+        plan::at(t.base, places::release(b)),
     )
 }

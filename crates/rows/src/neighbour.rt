@@ -1,7 +1,6 @@
 // The rows of a join up to its made base: phases 9 to 14.
 use crate::plan;
 use nodes::lock;
-use nodes::place;
 use rules::row::Plan;
 use rules::row::View;
 use rules::state::Body;
@@ -15,7 +14,7 @@ pub(crate) fn far_side(v: View) -> bool
 {
     let q = v.prev;
     let b = v.thread.base;
-    let left = place::child_on(false, q);
+    let left = places::child_on(false, q);
     left == b
 }
 
@@ -25,7 +24,7 @@ pub(crate) fn near_child(v: View) -> u8
 {
     let w = v.walk;
     let side = v.thread.side;
-    place::child_on(!side, w)
+    places::child_on(!side, w)
 }
 
 // Side fixed; walk = P's far child.
@@ -35,7 +34,7 @@ pub(crate) fn row_9(v: View) -> Plan
     let t = v.thread;
     let q = v.prev;
     let far = far_side(v);
-    plan::seeks(v, registers::set_side(far, t), place::child_on(far, q))
+    plan::seeks(v, registers::set_side(far, t), places::child_on(far, q))
 }
 
 // Walk = its child in the near way.
@@ -54,19 +53,19 @@ pub(crate) fn row_11(v: View) -> Plan
     let w = v.walk;
     let t = v.thread;
     let u = registers::set_neighbour(t.walk, t);
-    if place::is_free(w) {
+    if places::is_free(w) {
         let l = w.lock;
         let taken = lock::try_lock(v.me, l);
         return plan::stores_1(
             v,
             registers::at_phase(12, u),
-            plan::at(t.walk, place::with_lock(taken, w)),
+            plan::at(t.walk, places::with_lock(taken, w)),
         );
     }
     plan::stores_1(
         v,
         registers::at_phase(25, u),
-        plan::at(t.base, place::zero(own)),
+        plan::at(t.base, places::zero(own)),
     )
 }
 
@@ -77,21 +76,21 @@ fn no_join(v: View) -> Plan
     let t = v.thread;
     let b = v.base;
     let n = v.neighbour;
-    let free = place::release(n);
+    let free = places::release(n);
     let stored = plan::at(t.neighbour, free);
     if t.base == t.neighbour {
         return plan::stores_2(
             v,
             registers::at_phase(25, t),
             stored,
-            plan::at(t.base, place::zero(free)),
+            plan::at(t.base, places::zero(free)),
         );
     }
     plan::stores_2(
         v,
         registers::at_phase(25, t),
         stored,
-        plan::at(t.base, place::zero(b)),
+        plan::at(t.base, places::zero(b)),
     )
 }
 
@@ -105,8 +104,8 @@ fn join(v: View) -> Plan
     let b = v.base;
     let n = v.neighbour;
     let t = v.thread;
-    let ks = keys::union(place::keys_of(b), place::keys_of(n));
-    let both = place::new_node(Body::Base { keys: ks });
+    let ks = keys::union(places::keys_of(b), places::keys_of(n));
+    let both = places::new_node(Body::Base { keys: ks });
     Plan {
         thread: registers::at_phase(13, registers::set_made(at, t)),
         root: v.root,
@@ -139,13 +138,13 @@ pub(crate) fn row_13(v: View) -> Plan
 {
     let q = v.prev;
     let t = v.thread;
-    if place::is_free(q) {
+    if places::is_free(q) {
         let l = q.lock;
         let taken = lock::try_lock(v.me, l);
         return plan::stores_1(
             v,
             registers::at_phase(14, t),
-            plan::at(t.prev, place::with_lock(taken, q)),
+            plan::at(t.prev, places::with_lock(taken, q)),
         );
     }
     plan::goes(v, 13)
@@ -162,8 +161,8 @@ pub(crate) fn row_14(v: View) -> Plan
     plan::stores_3(
         v,
         registers::at_phase(15, t),
-        plan::at(t.prev, place::invalid(q)),
-        plan::at(t.neighbour, place::invalid(n)),
-        plan::at(t.base, place::invalid(b)),
+        plan::at(t.prev, places::invalid(q)),
+        plan::at(t.neighbour, places::invalid(n)),
+        plan::at(t.base, places::invalid(b)),
     )
 }

@@ -5,7 +5,6 @@ use crate::neighbour;
 use crate::plan;
 use crate::search;
 use crate::split;
-use nodes::place;
 use rules::row::Plan;
 use rules::row::View;
 ghost use mathlib.Core.Path.{_≡_};
@@ -23,8 +22,8 @@ pub fn next(v: View) -> u8
     let w = v.walk;
     match p {
         1 => v.root,
-        2 => place::child_by(v.thread.key, w),
-        9 => place::child_on(neighbour::far_side(v), q),
+        2 => places::child_by(v.thread.key, w),
+        9 => places::child_on(neighbour::far_side(v), q),
         10 => neighbour::near_child(v),
         22 => neighbour::near_child(v),
         _ => 128,

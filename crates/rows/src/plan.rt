@@ -1,5 +1,4 @@
 // What a row changes, put together.
-use nodes::place;
 use rules::row::Plan;
 use rules::row::Store;
 use rules::row::View;
@@ -89,7 +88,7 @@ pub(crate) fn hangs(v: View, t: Thread, new: u8, x: u8, y: u8, q: Place) -> Plan
             third: no_store(),
         };
     }
-    stores_1(v, t, at(y, place::takes_place(x, new, q)))
+    stores_1(v, t, at(y, places::takes_place(x, new, q)))
 }
 
 // The search's walk goes to `w`.
@@ -98,7 +97,7 @@ pub(crate) fn searches(v: View, t: Thread, w: u8) -> Plan
 {
     let p = v.reached;
     let u = registers::set_walk(w, t);
-    if place::is_route(p) {
+    if places::is_route(p) {
         return only(v, registers::at_phase(2, u));
     }
     only(v, registers::at_phase(3, registers::set_base(w, u)))
@@ -110,7 +109,7 @@ pub(crate) fn seeks(v: View, t: Thread, w: u8) -> Plan
 {
     let p = v.reached;
     let u = registers::set_walk(w, t);
-    if place::is_route(p) {
+    if places::is_route(p) {
         return only(v, registers::at_phase(10, u));
     }
     only(v, registers::at_phase(11, u))

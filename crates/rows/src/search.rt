@@ -2,7 +2,6 @@
 use crate::commit;
 use crate::plan;
 use nodes::lock;
-use nodes::place;
 use rules::row::Plan;
 use rules::row::View;
 ghost use mathlib.Core.Path.{_≡_};
@@ -24,7 +23,11 @@ pub(crate) fn row_2(v: View) -> Plan
 {
     let t = v.thread;
     let w = v.walk;
-    plan::searches(v, registers::set_prev(t.walk, t), place::child_by(t.key, w))
+    plan::searches(
+        v,
+        registers::set_prev(t.walk, t),
+        places::child_by(t.key, w),
+    )
 }
 
 // B free: take.
@@ -33,14 +36,14 @@ pub(crate) fn row_3(v: View) -> Plan
 {
     let b = v.base;
     let t = v.thread;
-    if place::is_free(b) {
+    if places::is_free(b) {
         let c = v.settings;
         let l = b.lock;
         let taken = lock::take_free(v.me, c, l);
         return plan::stores_1(
             v,
             registers::at_phase(5, t),
-            plan::at(t.base, place::with_lock(taken, b)),
+            plan::at(t.base, places::with_lock(taken, b)),
         );
     }
     plan::goes(v, 4)
@@ -52,14 +55,14 @@ pub(crate) fn row_4(v: View) -> Plan
 {
     let b = v.base;
     let t = v.thread;
-    if place::is_free(b) {
+    if places::is_free(b) {
         let c = v.settings;
         let l = b.lock;
         let taken = lock::take_contended(v.me, c, l);
         return plan::stores_1(
             v,
             registers::at_phase(5, t),
-            plan::at(t.base, place::with_lock(taken, b)),
+            plan::at(t.base, places::with_lock(taken, b)),
         );
     }
     plan::goes(v, 4)
@@ -73,13 +76,13 @@ pub(crate) fn row_5(v: View) -> Plan
     let t = v.thread;
     if b.valid {
         if v.committed < v.begun {
-            return commit::decides(v, place::with_keys(commit::keys_then(v), b));
+            return commit::decides(v, places::with_keys(commit::keys_then(v), b));
         }
         return plan::only(v, t);
     }
     plan::stores_1(
         v,
         registers::at_phase(1, t),
-        plan::at(t.base, place::release(b)),
+        plan::at(t.base, places::release(b)),
     )
 }

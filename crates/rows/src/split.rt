@@ -1,6 +1,5 @@
 // The rows of a split: phases 6 to 8.
 use crate::plan;
-use nodes::place;
 use rules::row::Plan;
 use rules::row::View;
 use rules::state::Body;
@@ -17,7 +16,7 @@ fn no_split(v: View) -> Plan
     plan::stores_1(
         v,
         registers::at_phase(25, t),
-        plan::at(t.base, place::zero(b)),
+        plan::at(t.base, places::zero(b)),
     )
 }
 
@@ -32,15 +31,15 @@ fn split(v: View) -> Plan
     let made = left + 3;
     let b = v.base;
     let t = v.thread;
-    let ks = place::keys_of(b);
+    let ks = places::keys_of(b);
     let key = keys::split_key(ks);
-    let low = place::new_node(Body::Base {
+    let low = places::new_node(Body::Base {
         keys: keys::below(ks, key),
     });
-    let high = place::new_node(Body::Base {
+    let high = places::new_node(Body::Base {
         keys: keys::from(ks, key),
     });
-    let top = place::new_node(Body::Route { key, left, right });
+    let top = places::new_node(Body::Route { key, left, right });
     Plan {
         thread: registers::at_phase(7, registers::set_made(route, t)),
         root: v.root,
@@ -81,6 +80,6 @@ pub(crate) fn row_8(v: View) -> Plan
     plan::stores_1(
         v,
         registers::at_phase(25, t),
-        plan::at(t.base, place::invalid(b)),
+        plan::at(t.base, places::invalid(b)),
     )
 }
