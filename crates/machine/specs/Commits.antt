@@ -5,7 +5,8 @@ use Prim.Native.Nat.{ℕ, _<_}
 use lib.Dec.{ltb}
 use lib.ListN.{getD}
 use borrow.Author.Tests.{ltb-true}
-use Rattle.rules.specs.Rows.{aboveMax, belowMin, baseB, noneOrP, needs, idle, stuck, planOf}
+use Rattle.rules.specs.Rows.{aboveMax, belowMin, planOf}
+use Rattle.rules.specs.Needs.{baseB, noneOrP, needs, idle, stuck}
 use Rattle.rules.specs.declared.row.View.{View}
 use Rattle.rules.specs.declared.row.Plan.{Plan}
 

@@ -11,7 +11,8 @@ use Rattle.rules.specs.State.{none, zeroThread, fresh, placeAt, threadAt}
 use Rattle.rules.specs.Registers.{setOperation}
 use Rattle.rules.specs.Places.{isRoute}
 use Rattle.rules.specs.Range.{inRange}
-use Rattle.rules.specs.Rows.{route, planOf, stuck}
+use Rattle.rules.specs.Rows.{planOf}
+use Rattle.rules.specs.Needs.{route, stuck}
 use Rattle.rules.specs.Step.{begun, beginOf, viewOf, after, ends, replyOf, stepOf}
 use Rattle.rules.specs.Answers.{stepNumber}
 use Rattle.rules.specs.declared.state.Settings.{Settings}

@@ -7,7 +7,7 @@ use lib.Dec.{ltb, eqb}
 use borrow.Author.Tests.{ltb-false}
 use Rattle.rules.specs.State.{threadAt}
 use Rattle.rules.specs.Range.{inRange}
-use Rattle.rules.specs.Rows.{stuck}
+use Rattle.rules.specs.Needs.{stuck}
 use Rattle.rules.specs.Step.{viewOf, ends, replyOf, stepOf, steps, runOf}
 use Rattle.rules.specs.List.{reached, keyListOf}
 use Rattle.rules.specs.Answers.{stepNumber, runNumber, listNumber}

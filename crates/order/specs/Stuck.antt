@@ -9,7 +9,8 @@ use borrow.Author.Tests.{lt-ltb, le-leb, eq-eqb, ne-eqb}
 use Rattle.keys.specs.Keys.{size}
 use Rattle.rules.specs.State.{none, zeroThread, placeAt, threadAt}
 use Rattle.rules.specs.Places.{isRoute, keysOf}
-use Rattle.rules.specs.Rows.{route, base, maybeRoute, noneOrP, aboveMax, belowMin, commitable, needs, idle, stuck, rows}
+use Rattle.rules.specs.Rows.{aboveMax, belowMin, rows}
+use Rattle.rules.specs.Needs.{route, base, maybeRoute, noneOrP, commitable, needs, idle, stuck}
 use Rattle.rules.specs.Step.{viewBefore, viewOf}
 use Rattle.rules.specs.declared.state.Thread.{Thread}
 use Rattle.rules.specs.declared.state.State.{State}

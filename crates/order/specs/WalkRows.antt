@@ -10,7 +10,8 @@ use Rattle.keys.specs.Keys.{size}
 use Rattle.rules.specs.State.{none, zeroPlace, placeAt, threadAt}
 use Rattle.rules.specs.Registers.{atPhase, setWalk}
 use Rattle.rules.specs.Places.{isRoute, isFree, routeKey, childOn, childBy}
-use Rattle.rules.specs.Rows.{route, searches, seeks, hangs, commits, decides, noSplit, split, noJoin, join, aboveMax, belowMin, keysThen, row0, row1, row2, row3, row4, row5, row6, row7, row8, row9, row10, row11, row12, row13, row14, row15, row16, row17, row18, row19, row20, row21, row22, row23, row24, row25, rows, planOf}
+use Rattle.rules.specs.Rows.{searches, seeks, hangs, commits, decides, noSplit, split, noJoin, join, aboveMax, belowMin, keysThen, row0, row1, row2, row3, row4, row5, row6, row7, row8, row9, row10, row11, row12, row13, row14, row15, row16, row17, row18, row19, row20, row21, row22, row23, row24, row25, rows, planOf}
+use Rattle.rules.specs.Needs.{route}
 use Rattle.rules.specs.Step.{viewBefore, viewOf, put, apply, after}
 use Rattle.rules.specs.declared.state.Place.{Place}
 use Rattle.rules.specs.declared.state.Thread.{Thread}

@@ -1,5 +1,5 @@
 // What rows ask of a place, and what they do to one.
-use nodes::lock;
+use locks::lock;
 use rules::state::Body;
 use rules::state::Lock;
 use rules::state::Place;

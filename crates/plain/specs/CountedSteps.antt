@@ -6,7 +6,7 @@ use native.Mathlib.Omega.{arith}
 use lib.Dec.{ltb, eqb}
 use borrow.Author.Tests.{ltb-false, eqb-true, eqb-false, ne-eqb, le-ltb, not-false}
 use Rattle.rules.specs.State.{threadAt}
-use Rattle.rules.specs.Rows.{stuck}
+use Rattle.rules.specs.Needs.{stuck}
 use Rattle.rules.specs.Range.{inRange}
 use Rattle.rules.specs.Follow.{follows}
 use Rattle.rules.specs.Step.{viewBefore, viewOf, after, ends, stepOf, runOf}

@@ -11,7 +11,8 @@ use borrow.Author.Tests.{ltb-false, leb-false, lt-leb, eq-eqb}
 use Rattle.rules.specs.State.{zeroThread, fresh, placeAt, threadAt}
 use Rattle.rules.specs.Registers.{setOperation}
 use Rattle.rules.specs.Range.{inRange}
-use Rattle.rules.specs.Rows.{rows, row25, planOf, stuck}
+use Rattle.rules.specs.Rows.{rows, row25, planOf}
+use Rattle.rules.specs.Needs.{stuck}
 use Rattle.rules.specs.Step.{begun, beginOf, viewBefore, viewOf, after, ends, replyOf, stepOf}
 use Rattle.rules.specs.declared.state.Settings.{Settings}
 use Rattle.rules.specs.declared.state.Thread.{Thread}

@@ -9,7 +9,7 @@ use Rattle.keys.specs.Keys.{has}
 use Rattle.rules.specs.State.{fresh, placeAt, threadAt}
 use Rattle.rules.specs.Places.{keysOf, keysAfter, answerOf}
 use Rattle.rules.specs.Range.{inRange}
-use Rattle.rules.specs.Rows.{stuck}
+use Rattle.rules.specs.Needs.{stuck}
 use Rattle.rules.specs.Step.{begun, beginOf, viewOf, after, ends, replyOf, stepOf}
 use Rattle.rules.specs.Answers.{stepNumber}
 use Rattle.rules.specs.declared.state.Settings.{Settings}

@@ -7,7 +7,7 @@ use lib.Dec.{ltb, leb, eqb}
 use borrow.Author.Tests.{ltb-false, eqb-true, not-false}
 use Rattle.rules.specs.State.{fresh, threadAt}
 use Rattle.rules.specs.Range.{inRange}
-use Rattle.rules.specs.Rows.{stuck}
+use Rattle.rules.specs.Needs.{stuck}
 use Rattle.rules.specs.Step.{begun, beginOf, viewOf, ends, replyOf, stepOf}
 use Rattle.rules.specs.Answers.{stepNumber}
 use Rattle.rules.specs.declared.state.Settings.{Settings}

@@ -3,7 +3,7 @@ use mathlib.Core.Path.{_≡_, ap}
 use mathlib.Core.Bool.{Bool, false, not}
 use Prim.Native.Nat.{_≤_}
 use lib.ListN.{List·getD-eq-default}
-use Rattle.rules.specs.Rows.{needs, idle, stuck}
+use Rattle.rules.specs.Needs.{needs, idle, stuck}
 use Rattle.rules.specs.declared.row.View.{View}
 
 pub ready-idle : (v : View) → v .thread .phase ≡ 0 → stuck v ≡ false

@@ -8,7 +8,8 @@ ghost use lib.ListN.{getD};
 ghost use Rattle.keys.specs.Keys.{size};
 ghost use Rattle.rules.specs.State.{zeroStatistics};
 ghost use Rattle.rules.specs.Places.{isBase, keysOf};
-ghost use Rattle.rules.specs.Rows.{route, base, maybeRoute, routeP, routeG, routeWalk, baseB, baseN, noneOrP, noneOrG, aboveMax, belowMin, commitable, needs, idle, stuck};
+ghost use Rattle.rules.specs.Rows.{aboveMax, belowMin};
+ghost use Rattle.rules.specs.Needs.{route, base, maybeRoute, routeP, routeG, routeWalk, baseB, baseN, noneOrP, noneOrG, commitable, needs, idle, stuck};
 
 // Register `n`, whose place is `p`, names a route.
 fn route(n: u8, p: Place) -> bool

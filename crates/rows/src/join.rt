@@ -1,7 +1,7 @@
 // The rows of a join from the search for G to the link, and the end: phases 15 to 25.
 use crate::neighbour;
 use crate::plan;
-use nodes::lock;
+use locks::lock;
 use rules::row::Plan;
 use rules::row::View;
 ghost use mathlib.Core.Path.{_≡_};

@@ -1,6 +1,6 @@
 // The rows of a join up to its made base: phases 9 to 14.
 use crate::plan;
-use nodes::lock;
+use locks::lock;
 use rules::row::Plan;
 use rules::row::View;
 use rules::state::Body;

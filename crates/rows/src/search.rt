@@ -1,7 +1,7 @@
 // The rows of the search: phases 1 to 5.
 use crate::commit;
 use crate::plan;
-use nodes::lock;
+use locks::lock;
 use rules::row::Plan;
 use rules::row::View;
 ghost use mathlib.Core.Path.{_≡_};

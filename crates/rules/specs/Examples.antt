@@ -8,7 +8,8 @@ use Rattle.keys.specs.Keys.{with, without, below, from, rising, listOf, size, s
 use Rattle.rules.specs.State.{zeroStatistics, freshThread, unmade, fresh, placeAt, threadAt}
 use Rattle.rules.specs.Registers.{atPhase, setBase, setOperation, setWalk}
 use Rattle.rules.specs.Places.{keysOf, routeKey, childOn}
-use Rattle.rules.specs.Rows.{hangs, searches, row1, row2, row3, row4, commits, decides, row5, noSplit, split, row6, row7, row8, row25, rows, planOf, needs, stuck}
+use Rattle.rules.specs.Rows.{hangs, searches, row1, row2, row3, row4, commits, decides, row5, noSplit, split, row6, row7, row8, row25, rows, planOf}
+use Rattle.rules.specs.Needs.{needs, stuck}
 use Rattle.rules.specs.Range.{settingsInRange, bodyInRange, placeInRange, registerInRange, registersInRange, threadInRange, placesInRange, threadsInRange, countsInRange, inRange}
 use Rattle.rules.specs.Step.{begun, beginOf, viewBefore, nextOf, viewOf, put, apply, after, replyOf, stepOf, steps, runOf}
 use Rattle.rules.specs.Answers.{stepValues, runValues}

@@ -2,6 +2,7 @@ pub mod State
 pub mod Registers
 pub mod Places
 pub mod Rows
+pub mod Needs
 pub mod Range
 pub mod Step
 pub mod List

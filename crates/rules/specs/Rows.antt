@@ -1,14 +1,14 @@
 -- "Phases": one definition a row. v is what the step reads: `v .base` is the place of B, `v .thread .base` its number, and so for P (prev),
 -- N (neighbour), G (grandparent), walk, and the made node (own). A row that is not stuck has these as it needs them.
-use mathlib.Core.Bool.{Bool, true, false, cond, not, _&&_, _||_}
+use mathlib.Core.Bool.{Bool, false, cond, not, _||_}
 use mathlib.Core.List.{List, [], _∷_}
 use Prim.Native.Nat.{ℕ, _+_}
-use lib.Dec.{ltb, leb, eqb}
+use lib.Dec.{ltb, eqb}
 use lib.ListN.{getD}
 use Rattle.keys.specs.Keys.{has, union, below, from, size, splitKey}
 use Rattle.rules.specs.State.{none, zeroStatistics, freshThread, newNode, zeroPlace}
 use Rattle.rules.specs.Registers.{atPhase, setPrev, setBase, setWalk, setNeighbour, setGrandparent, setMade, setSide, setAnswer}
-use Rattle.rules.specs.Places.{isRoute, isBase, keysOf, routeKey, childOn, childBy, takesPlace, isFree, withLock, tried, taken3, taken4, release, zero, invalid, withKeys, answerOf, keysAfter}
+use Rattle.rules.specs.Places.{isRoute, keysOf, routeKey, childOn, childBy, takesPlace, isFree, withLock, tried, taken3, taken4, release, zero, invalid, withKeys, answerOf, keysAfter}
 use Rattle.rules.specs.declared.state.Body.the-variants.{Base, Route}
 use Rattle.rules.specs.declared.state.Place.{Place}
 use Rattle.rules.specs.declared.state.Thread.{Thread}
@@ -305,88 +305,3 @@ rows =
 -- "A thread's phase is the step it takes next"
 unfoldable pub planOf : View → Plan
 planOf v = getD rows (v .thread .phase) row0 v
-
--- ---- refusal 8
-
--- register n, whose place is p, names a route; a base; is none or names a route
-abbrev pub route : ℕ → Place → Bool
-route n p = ltb n none && isRoute p
-
--- register n, whose place is p, names a base
-abbrev pub base : ℕ → Place → Bool
-base n p = ltb n none && isBase p
-
--- register n, whose place is p, is none or names a route
-abbrev pub maybeRoute : ℕ → Place → Bool
-maybeRoute n p = eqb n none || route n p
-
--- P is a route
-abbrev pub routeP : View → Bool
-routeP v = route (v .thread .prev) (v .prev)
-
--- G is a route
-abbrev pub routeG : View → Bool
-routeG v = route (v .thread .grandparent) (v .grandparent)
-
--- walk is a route
-abbrev pub routeWalk : View → Bool
-routeWalk v = route (v .thread .walk) (v .walk)
-
--- B is a base
-abbrev pub baseB : View → Bool
-baseB v = base (v .thread .base) (v .base)
-
--- N is a base
-abbrev pub baseN : View → Bool
-baseN v = base (v .thread .neighbour) (v .neighbour)
-
--- P is none or a route
-abbrev pub noneOrP : View → Bool
-noneOrP v = maybeRoute (v .thread .prev) (v .prev)
-
--- G is none or a route
-abbrev pub noneOrG : View → Bool
-noneOrG v = maybeRoute (v .thread .grandparent) (v .grandparent)
-
--- a commit needs committed < begun; P is named at 5 only below min
-abbrev pub commitable : View → Bool
-commitable v = ltb (v .committed) (v .begun) && (aboveMax v || not (belowMin v) || noneOrP v)
-
--- what the row at each phase needs of the registers that it names without first setting them, and of the counts
-unfoldable pub needs : List (View → Bool)
-needs =
-    (λ v. true)
-    ∷ (λ v. true)
-    ∷ routeWalk
-    ∷ baseB
-    ∷ baseB
-    ∷ (λ v. baseB v && (not (v .base .valid) || commitable v))
-    ∷ (λ v. baseB v && leb 2 (size (keysOf (v .base))))
-    ∷ (λ v. baseB v && noneOrP v && route (v .thread .made) (v .own))
-    ∷ baseB
-    ∷ (λ v. routeP v && baseB v)
-    ∷ routeWalk
-    ∷ (λ v. base (v .thread .walk) (v .walk) && baseB v)
-    ∷ (λ v. baseN v && baseB v)
-    ∷ routeP
-    ∷ (λ v. routeP v && baseN v && baseB v)
-    ∷ routeP
-    ∷ (λ v. routeWalk v && routeP v)
-    ∷ routeG
-    ∷ routeG
-    ∷ (λ v. routeP v && noneOrG v)
-    ∷ (λ v. routeP v && noneOrG v)
-    ∷ (λ v. routeP v && baseN v && noneOrG v)
-    ∷ routeWalk
-    ∷ (λ v. base (v .thread .made) (v .own) && baseN v && maybeRoute (v .thread .walk) (v .walk))
-    ∷ baseN
-    ∷ baseB
-    ∷ []
-
--- what no row needs
-abbrev pub idle : View → Bool
-idle v = true
-
--- "a step .. is stuck"
-unfoldable pub stuck : View → Bool
-stuck v = not (getD needs (v .thread .phase) idle v)

@@ -7,7 +7,8 @@ use lib.ListN.{set}
 use Rattle.rules.specs.State.{none, fresh, zeroPlace, placeAt, threadAt}
 use Rattle.rules.specs.Registers.{setOperation}
 use Rattle.rules.specs.Places.{childOn, childBy}
-use Rattle.rules.specs.Rows.{farSide, nearChild, planOf, stuck}
+use Rattle.rules.specs.Rows.{farSide, nearChild, planOf}
+use Rattle.rules.specs.Needs.{stuck}
 use Rattle.rules.specs.Range.{settingsInRange, inRange}
 use Rattle.rules.specs.declared.state.Settings.{Settings}
 use Rattle.rules.specs.declared.state.Place.{Place}

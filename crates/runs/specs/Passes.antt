@@ -5,7 +5,7 @@ use mathlib.Core.List.{List, [], _∷_}
 use Prim.Native.Nat.{ℕ, _+_}
 use lib.Dec.{eqb}
 use Rattle.rules.specs.State.{placeAt, threadAt}
-use Rattle.rules.specs.Rows.{route}
+use Rattle.rules.specs.Needs.{route}
 use Rattle.rules.specs.Step.{after, stepOf}
 use Rattle.rules.specs.Answers.{stepNumber}
 use Rattle.rules.specs.declared.state.State.{State}

@@ -6,7 +6,7 @@ use borrow.Author.Tests.{ltb-false, leb-false, not-false}
 use lib.Dec.{eqb, leb, ltb}
 use Rattle.states.specs.Tests.{pick-by}
 use Rattle.rules.specs.State.{threadAt}
-use Rattle.rules.specs.Rows.{stuck}
+use Rattle.rules.specs.Needs.{stuck}
 use Rattle.rules.specs.Range.{inRange}
 use Rattle.rules.specs.Step.{begun, beginOf, viewOf, after, ends, refusedRun, stepOf, steps, runOf}
 use Rattle.rules.specs.declared.state.State.{State}

@@ -12,7 +12,8 @@ use Rattle.states.specs.Phase.{Each, end, _then_, by-phase}
 use Rattle.states.specs.Facts.{facts}
 use Rattle.rules.specs.State.{none, threadAt}
 use Rattle.rules.specs.Places.{isRoute, isFree, withKeys}
-use Rattle.rules.specs.Rows.{hangs, searches, seeks, farChild, aboveMax, belowMin, keysThen, commits, decides, noSplit, split, noJoin, join, towardsPrev, row0, row1, row2, row3, row4, row5, row6, row7, row8, row9, row10, row11, row12, row13, row14, row15, row16, row17, row18, row19, row20, row21, row22, row23, row24, row25, rows, planOf, stuck}
+use Rattle.rules.specs.Rows.{hangs, searches, seeks, farChild, aboveMax, belowMin, keysThen, commits, decides, noSplit, split, noJoin, join, towardsPrev, row0, row1, row2, row3, row4, row5, row6, row7, row8, row9, row10, row11, row12, row13, row14, row15, row16, row17, row18, row19, row20, row21, row22, row23, row24, row25, rows, planOf}
+use Rattle.rules.specs.Needs.{stuck}
 use Rattle.rules.specs.Range.{inRange}
 use Rattle.rules.specs.Step.{viewBefore, viewOf, ends, replyOf, stepOf}
 use Rattle.rules.specs.Follow.{follows}

@@ -13,7 +13,8 @@ use Rattle.states.specs.Pieces.{phase-ok, walk-ok, neighbour-ok, grandpa
 use Rattle.states.specs.Common.{named, reg, nothing, stores3-ok, stores1-ok, only-ok, goes-ok, hangs-ok, seeks-ok}
 use Rattle.rules.specs.State.{none}
 use Rattle.rules.specs.Places.{isRoute, isBase, isFree, childOn}
-use Rattle.rules.specs.Rows.{farSide, farChild, nearChild, noJoin, join, towardsPrev, base, maybeRoute, routeP, baseN, noneOrG, row9, row10, row11, row12, row13, row14, row15, row16, row17, row18, row19, row20, row21, row22, row23, row24}
+use Rattle.rules.specs.Rows.{farSide, farChild, nearChild, noJoin, join, towardsPrev, row9, row10, row11, row12, row13, row14, row15, row16, row17, row18, row19, row20, row21, row22, row23, row24}
+use Rattle.rules.specs.Needs.{base, maybeRoute, routeP, baseN, noneOrG}
 use Rattle.rules.specs.declared.row.View.{View}
 use Rattle.rules.specs.declared.row.Store.{Store}
 

@@ -16,7 +16,8 @@ use Rattle.states.specs.Common.{named, reg, nothing, stores1-ok, only-ok
 use Rattle.rules.specs.State.{none}
 use Rattle.rules.specs.Registers.{atPhase}
 use Rattle.rules.specs.Places.{isRoute, isFree, keysOf, release, withKeys, answerOf}
-use Rattle.rules.specs.Rows.{at, stores1, aboveMax, belowMin, keysThen, commits, decides, noSplit, split, route, base, baseB, noneOrP, commitable, row0, row1, row2, row3, row4, row5, row6, row7, row8, row25}
+use Rattle.rules.specs.Rows.{at, stores1, aboveMax, belowMin, keysThen, commits, decides, noSplit, split, row0, row1, row2, row3, row4, row5, row6, row7, row8, row25}
+use Rattle.rules.specs.Needs.{route, base, baseB, noneOrP, commitable}
 use Rattle.rules.specs.declared.state.Place.{Place}
 use Rattle.rules.specs.declared.row.View.{View}
 use Rattle.rules.specs.declared.row.Plan.{Plan}

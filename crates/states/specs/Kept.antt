@@ -15,7 +15,8 @@ use Rattle.states.specs.Pieces.{fresh-thread-ok, operation-ok, zero-plac
 use Rattle.states.specs.KeepsSearch.{row0-ok, row1-ok, row2-ok, row3-ok, row4-ok, row5-ok, row6-ok, row7-ok, row8-ok, row25-ok}
 use Rattle.states.specs.KeepsJoin.{row9-ok, row10-ok, row11-ok, row12-ok, row13-ok, row14-ok, row15-ok, row16-ok, row17-ok, row18-ok, row19-ok, row20-ok, row21-ok, row22-ok, row23-ok, row24-ok}
 use Rattle.rules.specs.State.{unmade, fresh, zeroPlace, zeroThread, threadAt}
-use Rattle.rules.specs.Rows.{rows, planOf, needs, idle, stuck}
+use Rattle.rules.specs.Rows.{rows, planOf}
+use Rattle.rules.specs.Needs.{needs, idle, stuck}
 use Rattle.rules.specs.Range.{settingsInRange, registerInRange, registersInRange, threadInRange, inRange}
 use Rattle.rules.specs.Step.{zeroSettings, freshOf, begun, beginOf, viewOf, after, stepOf, runOf}
 use Rattle.rules.specs.declared.state.Settings.{Settings}

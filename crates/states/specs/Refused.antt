@@ -8,7 +8,7 @@ use lib.Dec.{eqb, leb, ltb}
 use Rattle.states.specs.Tests.{pick}
 use Rattle.states.specs.Calls.{steps-tests, run-tests}
 use Rattle.rules.specs.State.{threadAt}
-use Rattle.rules.specs.Rows.{stuck}
+use Rattle.rules.specs.Needs.{stuck}
 use Rattle.rules.specs.Range.{inRange}
 use Rattle.rules.specs.Step.{beginOf, viewOf, after, ends, replyOf, stepOf, steps, runOf}
 use Rattle.rules.specs.declared.state.State.{State}

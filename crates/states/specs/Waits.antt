@@ -12,7 +12,8 @@ use Rattle.states.specs.Tests.{both, either}
 use Rattle.states.specs.Phase.{row-at}
 use Rattle.rules.specs.State.{zeroThread, threadAt}
 use Rattle.rules.specs.Places.{isFree}
-use Rattle.rules.specs.Rows.{goes, rows, row0, row4, row13, row17, planOf, stuck}
+use Rattle.rules.specs.Rows.{goes, rows, row0, row4, row13, row17, planOf}
+use Rattle.rules.specs.Needs.{stuck}
 use Rattle.rules.specs.Step.{viewBefore, viewOf, put, apply, ends, after, steps}
 use Rattle.rules.specs.declared.state.Place.{Place}
 use Rattle.rules.specs.declared.state.State.{State}

@@ -3,7 +3,8 @@ use mathlib.Core.Path.{sym, ap}
 use mathlib.Core.Bool.{not}
 use native.Mathlib.Omega.{arith}
 use borrow.Author.Needs.{needs}
-use Rattle.rules.specs.Rows.{needs as rowNeeds, stuck}
+use Rattle.rules.specs.Needs.{needs as rowNeeds}
+use Rattle.rules.specs.Needs.{stuck}
 use Rattle.ready.proofs.Idle.{ready-idle, ready-past}
 use Rattle.ready.proofs.stuck.Statement.{statement}
 use Rattle.ready.proofs.stuck.Tie as tie

@@ -2,7 +2,7 @@
 use mathlib.Core.Path.{sym, ap, _∙_}
 use borrow.Author.Needs.{needs}
 use borrow.Author.Tests.{eq-eqb, le-ltb, lt-ltb, ne-eqb}
-use Rattle.rules.specs.Rows.{stuck}
+use Rattle.rules.specs.Needs.{stuck}
 use Rattle.machine.specs.Commits.{can-commit}
 use Rattle.rules.specs.Step.{stepOf, replyOf, after}
 use Rattle.rules.specs.State.{threadAt}

@@ -7,7 +7,8 @@ use borrow.Author.Tests.{eq-eqb, ne-eqb}
 use Rattle.rules.specs.declared.state.State.{State}
 use Rattle.rules.specs.declared.answer.RunReply.the-variants.{Stops, Ends}
 use Rattle.rules.specs.State.{threadAt}
-use Rattle.rules.specs.Rows.{planOf, stuck}
+use Rattle.rules.specs.Rows.{planOf}
+use Rattle.rules.specs.Needs.{stuck}
 use Rattle.states.specs.Waits.{waits, waits-steps}
 use Rattle.rules.specs.Step.{viewOf, apply, after, steps}
 use Rattle.machine.specs.Commits.{can-commit}

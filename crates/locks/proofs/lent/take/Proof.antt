@@ -1,14 +1,14 @@
--- `nodes::lent::take` meets its contract: a walk of its MIR, by hand. The borrow is opened, both fields are written, and it is closed at the new record.
+-- `locks::lent::take` meets its contract: a walk of its MIR, by hand. The borrow is opened, both fields are written, and it is closed at the new record.
 use Rattle.rules.specs.declared.state.Lock.{Lock}
-use Rattle.nodes.proofs.Names.{refl, ℕ, _<_, _^_, List, [], _∷_, URA, named, w8, w32, Val, vunit, vint, vptr, SProp, ent, sep, via, GName, Lft, Share, flft, fobs, fbor, fres, Memory, Routine, Heap, Calls, Loops, WpFn, Atoms}
-use Rattle.nodes.proofs.Names.{Fun, givenOf, tables, Given, ‵, _$_, _∵_, !, qed, by, move, join, fjoin, feqI, suffices, frame, done, look, init, forget, stop, hop, fld, from, load, unit-lit, of-opd, assigns, returns}
-use Rattle.nodes.proofs.Names.{enter, alloc1, alloc0, params1, pass1, pass0, free1, free0, whole, sub, store-in, Body, mem, uint-vals, uint-tells, u8, u32, ptr-vals, mut-tells, plain, yes, nothing, onEntry}
-use Rattle.nodes.proofs.Names.{says, Stays, gave-ref, stay-dropped, walkOf, goes-gave-ref, goes-dropped, ends-at}
-use Rattle.nodes.proofs.LentLock.{R, at, opens-lock, closes-lock, borrowed, closed}
-use Rattle.nodes.proofs.lent.take.Key.{name as #take}
-use Rattle.nodes.proofs.lent.take as f
-use Rattle.nodes.proofs.lent.take.Statement as stated
-use Rattle.nodes.proofs.lent.take.Code as code
+use Rattle.locks.proofs.Names.{refl, ℕ, _<_, _^_, List, [], _∷_, URA, named, w8, w32, Val, vunit, vint, vptr, SProp, ent, sep, via, GName, Lft, Share, flft, fobs, fbor, fres, Memory, Routine, Heap, Calls, Loops, WpFn, Atoms}
+use Rattle.locks.proofs.Names.{Fun, givenOf, tables, Given, ‵, _$_, _∵_, !, qed, by, move, join, fjoin, feqI, suffices, frame, done, look, init, forget, stop, hop, fld, from, load, unit-lit, of-opd, assigns, returns}
+use Rattle.locks.proofs.Names.{enter, alloc1, alloc0, params1, pass1, pass0, free1, free0, whole, sub, store-in, Body, mem, uint-vals, uint-tells, u8, u32, ptr-vals, mut-tells, plain, yes, nothing, onEntry}
+use Rattle.locks.proofs.Names.{says, Stays, gave-ref, stay-dropped, walkOf, goes-gave-ref, goes-dropped, ends-at}
+use Rattle.locks.proofs.LentLock.{R, at, opens-lock, closes-lock, borrowed, closed}
+use Rattle.locks.proofs.lent.take.Key.{name as #take}
+use Rattle.locks.proofs.lent.take as f
+use Rattle.locks.proofs.lent.take.Statement as stated
+use Rattle.locks.proofs.lent.take.Code as code
 
 abbrev stayed : Stays (f.ended .signature .params) (f.ended .kept)
 stayed = (gave-ref (0 ∷ []) tt (plain (λ _. R)), (stay-dropped (plain (λ _. u8)) yes, (stay-dropped (plain (λ _. u32)) yes, tt)))

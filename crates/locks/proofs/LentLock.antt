@@ -5,14 +5,14 @@ use denote.Struct.Laws as LL
 use Rattle.rules.specs.declared.state.Lock.{Lock}
 use Rattle.rules.proofs.state.Lock as T
 use Rattle.rules.proofs.state.Lock.Laws as T′
-use Rattle.nodes.proofs.Names.{_≡_, refl, sym, ap, subst, ℕ, _<_, _^_, List, [], _∷_, URA, fullShare, Holds, Name, Fn, named, tyUnit, w8, w32}
-use Rattle.nodes.proofs.Names.{Val, vunit, vint, vptr, vstruct, vnil, vcons, WT, hasTy, SProp, ent, sep, ex, emp, id⊢, via, fst∗, Gv}
-use Rattle.nodes.proofs.Names.{Fml, GName, Lft, Share, ftrue, fsep, fat, flft, fobs, fauth, fbor, fobor, fres, flent, Env, Model, Heap, WpFn, Closed, Atoms, sem}
-use Rattle.nodes.proofs.Names.{FmC, fmOf, WpFn-mono, fact, Lfts, Shares, AllOutlive, GhostRules, Running, givenOf, tables, Goal, Soaks, Item, Seq, Step, Given}
-use Rattle.nodes.proofs.Names.{‵, raw, _⊛_, some, later, _$_, _∵_, !, qed, move, keep, drop, use1, use3, split, pick, rewrite, fsplit, fsplit3, fjoin, fpick, fpack, feqL, await, done}
-use Rattle.nodes.proofs.Names.{name-done, lft-new, lft-end, Body, RattleType, Denots, Valss, flat, owns, Is, Ises, Are, Spells, Tells, Tellss, valss, shows, cellAt, partAt, mem}
-use Rattle.nodes.proofs.Names.{Nothing, RefT, MutRef, typesAt, lends-ref, ref-back, only, opens, closes, facts, owned, heard, spelt, Ended, Clauses, closing, Args, onEntry}
-use Rattle.nodes.proofs.Names.{tripleOf, Triple, entered, Stays, walkOf, AllGo, walked, walk-meets}
+use Rattle.locks.proofs.Names.{_≡_, refl, sym, ap, subst, ℕ, _<_, _^_, List, [], _∷_, URA, fullShare, Holds, Name, Fn, named, tyUnit, w8, w32}
+use Rattle.locks.proofs.Names.{Val, vunit, vint, vptr, vstruct, vnil, vcons, WT, hasTy, SProp, ent, sep, ex, emp, id⊢, via, fst∗, Gv}
+use Rattle.locks.proofs.Names.{Fml, GName, Lft, Share, ftrue, fsep, fat, flft, fobs, fauth, fbor, fobor, fres, flent, Env, Model, Heap, WpFn, Closed, Atoms, sem}
+use Rattle.locks.proofs.Names.{FmC, fmOf, WpFn-mono, fact, Lfts, Shares, AllOutlive, GhostRules, Running, givenOf, tables, Goal, Soaks, Item, Seq, Step, Given}
+use Rattle.locks.proofs.Names.{‵, raw, _⊛_, some, later, _$_, _∵_, !, qed, move, keep, drop, use1, use3, split, pick, rewrite, fsplit, fsplit3, fjoin, fpick, fpack, feqL, await, done}
+use Rattle.locks.proofs.Names.{name-done, lft-new, lft-end, Body, RattleType, Denots, Valss, flat, owns, Is, Ises, Are, Spells, Tells, Tellss, valss, shows, cellAt, partAt, mem}
+use Rattle.locks.proofs.Names.{Nothing, RefT, MutRef, typesAt, lends-ref, ref-back, only, opens, closes, facts, owned, heard, spelt, Ended, Clauses, closing, Args, onEntry}
+use Rattle.locks.proofs.Names.{tripleOf, Triple, entered, Stays, walkOf, AllGo, walked, walk-meets}
 
 abbrev pub R : RattleType
 R = T.the-row

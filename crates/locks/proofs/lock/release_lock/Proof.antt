@@ -1,19 +1,19 @@
--- `nodes::lock::release_lock` meets its contract: a walk of its MIR, by hand. The local is lent to `release`, and is had back at the record that `release` leaves.
+-- `locks::lock::release_lock` meets its contract: a walk of its MIR, by hand. The local is lent to `release`, and is had back at the record that `release` leaves.
 -- All that the proof knows of `release` is that it meets its contract.
 use Rattle.rules.specs.declared.state.Lock.{Lock}
 use Rattle.rules.specs.Places.{released}
-use Rattle.nodes.proofs.Names.{refl, ℕ, [], _∷_, URA, fullShare, Val, vptr, SProp, ent, sep, emp, GName, ftrue, flft, Memory, Routine, Heap, Calls, Loops, WpFn, Atoms, sem, FmC, Fun, givenOf, tables, Given}
-use Rattle.nodes.proofs.Names.{‵, raw, _$_, _∵_, !, qed, by, move, keep, use2, join, fjoin, suffices, frame, done, look, init, forget, stop, from, load, addr, of-opd, and-then, no-more, assigns, land, returns}
-use Rattle.nodes.proofs.Names.{enter, alloc1, alloc0, params1, pass1, pass0, free1, free0, owns, plain, yes, nothing, calls-at, onEntry, tripleOf, Contract, Triple, cited, says, Stays, stay-dropped, walkOf, goes-dropped, ends-at}
-use Rattle.nodes.proofs.LentLock.{R, mach, vals-lock, tells-lock, Fits, fits, typed, typed-unit, at, Lent, owns-lock, lends-lock, called, backs-lock, closed}
-use Rattle.nodes.proofs.lent.release as release
-use Rattle.nodes.proofs.lent.release.Symbol as release-def
-use Rattle.nodes.proofs.lent.release.Symbol.{name as #release}
-use Rattle.nodes.proofs.lent.release.Met as release-thm
-use Rattle.nodes.proofs.lock.release_lock.Key.{name as #release-lock}
-use Rattle.nodes.proofs.lock.release_lock as f
-use Rattle.nodes.proofs.lock.release_lock.Statement as stated
-use Rattle.nodes.proofs.lock.release_lock.Code as code
+use Rattle.locks.proofs.Names.{refl, ℕ, [], _∷_, URA, fullShare, Val, vptr, SProp, ent, sep, emp, GName, ftrue, flft, Memory, Routine, Heap, Calls, Loops, WpFn, Atoms, sem, FmC, Fun, givenOf, tables, Given}
+use Rattle.locks.proofs.Names.{‵, raw, _$_, _∵_, !, qed, by, move, keep, use2, join, fjoin, suffices, frame, done, look, init, forget, stop, from, load, addr, of-opd, and-then, no-more, assigns, land, returns}
+use Rattle.locks.proofs.Names.{enter, alloc1, alloc0, params1, pass1, pass0, free1, free0, owns, plain, yes, nothing, calls-at, onEntry, tripleOf, Contract, Triple, cited, says, Stays, stay-dropped, walkOf, goes-dropped, ends-at}
+use Rattle.locks.proofs.LentLock.{R, mach, vals-lock, tells-lock, Fits, fits, typed, typed-unit, at, Lent, owns-lock, lends-lock, called, backs-lock, closed}
+use Rattle.locks.proofs.lent.release as release
+use Rattle.locks.proofs.lent.release.Symbol as release-def
+use Rattle.locks.proofs.lent.release.Symbol.{name as #release}
+use Rattle.locks.proofs.lent.release.Met as release-thm
+use Rattle.locks.proofs.lock.release_lock.Key.{name as #release-lock}
+use Rattle.locks.proofs.lock.release_lock as f
+use Rattle.locks.proofs.lock.release_lock.Statement as stated
+use Rattle.locks.proofs.lock.release_lock.Code as code
 
 abbrev stayed : Stays (f.ended .signature .params) (f.ended .kept)
 stayed = (stay-dropped (plain (λ _. R)) yes, tt)
@@ -66,4 +66,4 @@ release-lock-spec 𝓤 H 𝓜 𝓖 𝓡 =
     (goes-dropped 𝓤 H (𝓖 .A) W 0 (plain (λ _. R)) yes (λ κs x g. refl), tt) (code.unfolded 𝓤 H 𝓜 𝓡) (λ κs. (vals-lock, tt)) (λ κs. (tells-lock, tt))
     (λ fm κs qs bounds a g are.
     walk 𝓤 H (𝓖 .A) W (𝓜 .mem) (𝓡 .run) (a .0) (fits (a .0) _ (are .0)) (tables 𝓤 H 𝓜 𝓡 code.env .C) (tables 𝓤 H 𝓜 𝓡 code.env .Λ) fm
-    (cited 𝓤 H (Release 𝓤 H (𝓖 .A) (𝓜 .mem) (𝓡 .run)) 𝓜 𝓡 code.env #release release-def.routine code.calls-nodes·lent·release (release-thm.met 𝓤 H 𝓜 𝓖 𝓡)))
+    (cited 𝓤 H (Release 𝓤 H (𝓖 .A) (𝓜 .mem) (𝓡 .run)) 𝓜 𝓡 code.env #release release-def.routine code.calls-locks·lent·release (release-thm.met 𝓤 H 𝓜 𝓖 𝓡)))

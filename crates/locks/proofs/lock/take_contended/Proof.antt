@@ -1,7 +1,7 @@
--- `nodes::lock::take_contended` meets its contract.
+-- `locks::lock::take_contended` meets its contract.
 use borrow.Author.Needs.{needs}
-use Rattle.nodes.proofs.lock.take_contended.Statement.{statement}
-use Rattle.nodes.proofs.lock.take_contended.Tie as tie
+use Rattle.locks.proofs.lock.take_contended.Statement.{statement}
+use Rattle.locks.proofs.lock.take_contended.Tie as tie
 
 more-requires : tie.Need-more-requires
 more-requires c κs = search needs

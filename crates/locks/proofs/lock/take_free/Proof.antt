@@ -1,7 +1,7 @@
--- `nodes::lock::take_free` meets its contract.
+-- `locks::lock::take_free` meets its contract.
 use borrow.Author.Needs.{needs}
-use Rattle.nodes.proofs.lock.take_free.Statement.{statement}
-use Rattle.nodes.proofs.lock.take_free.Tie as tie
+use Rattle.locks.proofs.lock.take_free.Statement.{statement}
+use Rattle.locks.proofs.lock.take_free.Tie as tie
 
 less-requires : tie.Need-less-requires
 less-requires c κs = search needs

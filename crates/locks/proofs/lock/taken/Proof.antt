@@ -1,20 +1,20 @@
--- `nodes::lock::taken` meets its contract: a walk of its MIR, by hand. The local is lent to `take`, and is had back at the record that `take` leaves.
+-- `locks::lock::taken` meets its contract: a walk of its MIR, by hand. The local is lent to `take`, and is had back at the record that `take` leaves.
 -- All that the proof knows of `take` is that it meets its contract.
 use Rattle.rules.specs.declared.state.Lock.{Lock}
 use Rattle.rules.specs.Places.{taken}
-use Rattle.nodes.proofs.Names.{refl, ℕ, _<_, _^_, [], _∷_, URA, fullShare, w8, w32, Val, vint, vptr, SProp, ent, sep, emp, GName, ftrue, fsep, flft, Memory, Routine, Heap, Calls, Loops, WpFn, Atoms, sem, FmC, Fun}
-use Rattle.nodes.proofs.Names.{givenOf, tables, Given, ‵, raw, _$_, _∵_, !, qed, by, move, keep, use2, join, fjoin, suffices, frame, done, look, init, forget, stop, from, load, addr, of-opd, and-then, no-more, assigns, land, returns}
-use Rattle.nodes.proofs.Names.{enter, alloc1, alloc0, params1, pass1, pass0, free1, free0, owns, Is, uint-vals, uint-tells, uint-makes, u8, u32, plain, yes, owned, nothing, calls-at, onEntry, tripleOf, Contract, Triple, cited}
-use Rattle.nodes.proofs.Names.{says, Stays, stay-dropped, walkOf, goes-dropped, ends-at}
-use Rattle.nodes.proofs.LentLock.{R, mach, vals-lock, tells-lock, Fits, fits, typed, typed-unit, at, Lent, owns-lock, lends-lock, called, backs-lock, closed}
-use Rattle.nodes.proofs.lent.take as take
-use Rattle.nodes.proofs.lent.take.Symbol as take-def
-use Rattle.nodes.proofs.lent.take.Symbol.{name as #take}
-use Rattle.nodes.proofs.lent.take.Met as take-thm
-use Rattle.nodes.proofs.lock.taken.Key.{name as #taken}
-use Rattle.nodes.proofs.lock.taken as f
-use Rattle.nodes.proofs.lock.taken.Statement as stated
-use Rattle.nodes.proofs.lock.taken.Code as code
+use Rattle.locks.proofs.Names.{refl, ℕ, _<_, _^_, [], _∷_, URA, fullShare, w8, w32, Val, vint, vptr, SProp, ent, sep, emp, GName, ftrue, fsep, flft, Memory, Routine, Heap, Calls, Loops, WpFn, Atoms, sem, FmC, Fun}
+use Rattle.locks.proofs.Names.{givenOf, tables, Given, ‵, raw, _$_, _∵_, !, qed, by, move, keep, use2, join, fjoin, suffices, frame, done, look, init, forget, stop, from, load, addr, of-opd, and-then, no-more, assigns, land, returns}
+use Rattle.locks.proofs.Names.{enter, alloc1, alloc0, params1, pass1, pass0, free1, free0, owns, Is, uint-vals, uint-tells, uint-makes, u8, u32, plain, yes, owned, nothing, calls-at, onEntry, tripleOf, Contract, Triple, cited}
+use Rattle.locks.proofs.Names.{says, Stays, stay-dropped, walkOf, goes-dropped, ends-at}
+use Rattle.locks.proofs.LentLock.{R, mach, vals-lock, tells-lock, Fits, fits, typed, typed-unit, at, Lent, owns-lock, lends-lock, called, backs-lock, closed}
+use Rattle.locks.proofs.lent.take as take
+use Rattle.locks.proofs.lent.take.Symbol as take-def
+use Rattle.locks.proofs.lent.take.Symbol.{name as #take}
+use Rattle.locks.proofs.lent.take.Met as take-thm
+use Rattle.locks.proofs.lock.taken.Key.{name as #taken}
+use Rattle.locks.proofs.lock.taken as f
+use Rattle.locks.proofs.lock.taken.Statement as stated
+use Rattle.locks.proofs.lock.taken.Code as code
 
 abbrev stayed : Stays (f.ended .signature .params) (f.ended .kept)
 stayed = (stay-dropped (plain (λ _. R)) yes, (stay-dropped (plain (λ _. u8)) yes, (stay-dropped (plain (λ _. u32)) yes, tt)))
@@ -73,4 +73,4 @@ taken-spec 𝓤 H 𝓜 𝓖 𝓡 =
     (code.unfolded 𝓤 H 𝓜 𝓡) (λ κs. (vals-lock, (uint-vals w8, (uint-vals w32, tt)))) (λ κs. (tells-lock, (uint-tells w8, (uint-tells w32, tt))))
     (λ fm κs qs bounds a g are.
     walk 𝓤 H (𝓖 .A) W (𝓜 .mem) (𝓡 .run) (a .0) (a .1 .0) (a .1 .1 .0) (fits (a .0) _ (are .0)) (are .1 .0 .1) (are .1 .1 .0 .1) (tables 𝓤 H 𝓜 𝓡 code.env .C) (tables 𝓤 H 𝓜 𝓡 code.env .Λ) fm
-    (cited 𝓤 H (Take 𝓤 H (𝓖 .A) (𝓜 .mem) (𝓡 .run)) 𝓜 𝓡 code.env #take take-def.routine code.calls-nodes·lent·take (take-thm.met 𝓤 H 𝓜 𝓖 𝓡)))
+    (cited 𝓤 H (Take 𝓤 H (𝓖 .A) (𝓜 .mem) (𝓡 .run)) 𝓜 𝓡 code.env #take take-def.routine code.calls-locks·lent·take (take-thm.met 𝓤 H 𝓜 𝓖 𝓡)))

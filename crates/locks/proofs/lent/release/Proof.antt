@@ -1,13 +1,13 @@
--- `nodes::lent::release` meets its contract: a walk of its MIR, by hand. The borrow is opened, the holder is written, and it is closed at the new record.
+-- `locks::lent::release` meets its contract: a walk of its MIR, by hand. The borrow is opened, the holder is written, and it is closed at the new record.
 use Rattle.rules.specs.declared.state.Lock.{Lock}
-use Rattle.nodes.proofs.Names.{refl, ℕ, List, [], _∷_, URA, lit<, named, Val, vunit, vptr, SProp, ent, sep, via, GName, Lft, Share, flft, fobs, fbor, fres, Memory, Routine, Heap, Calls, Loops, WpFn, Atoms}
-use Rattle.nodes.proofs.Names.{Fun, givenOf, tables, Given, ‵, _$_, _∵_, !, qed, by, move, join, fjoin, feqI, suffices, frame, done, look, init, forget, stop, hop, fld, from, lit, unit-lit, of-opd, assigns, returns}
-use Rattle.nodes.proofs.Names.{enter, alloc1, alloc0, params1, pass1, pass0, free1, free0, whole, sub, store-in, Body, mem, ptr-vals, mut-tells, plain, nothing, onEntry, says, Stays, gave-ref, walkOf, goes-gave-ref, ends-at}
-use Rattle.nodes.proofs.LentLock.{R, at, opens-lock, closes-lock, borrowed, closed}
-use Rattle.nodes.proofs.lent.release.Key.{name as #release}
-use Rattle.nodes.proofs.lent.release as f
-use Rattle.nodes.proofs.lent.release.Statement as stated
-use Rattle.nodes.proofs.lent.release.Code as code
+use Rattle.locks.proofs.Names.{refl, ℕ, List, [], _∷_, URA, lit<, named, Val, vunit, vptr, SProp, ent, sep, via, GName, Lft, Share, flft, fobs, fbor, fres, Memory, Routine, Heap, Calls, Loops, WpFn, Atoms}
+use Rattle.locks.proofs.Names.{Fun, givenOf, tables, Given, ‵, _$_, _∵_, !, qed, by, move, join, fjoin, feqI, suffices, frame, done, look, init, forget, stop, hop, fld, from, lit, unit-lit, of-opd, assigns, returns}
+use Rattle.locks.proofs.Names.{enter, alloc1, alloc0, params1, pass1, pass0, free1, free0, whole, sub, store-in, Body, mem, ptr-vals, mut-tells, plain, nothing, onEntry, says, Stays, gave-ref, walkOf, goes-gave-ref, ends-at}
+use Rattle.locks.proofs.LentLock.{R, at, opens-lock, closes-lock, borrowed, closed}
+use Rattle.locks.proofs.lent.release.Key.{name as #release}
+use Rattle.locks.proofs.lent.release as f
+use Rattle.locks.proofs.lent.release.Statement as stated
+use Rattle.locks.proofs.lent.release.Code as code
 
 abbrev stayed : Stays (f.ended .signature .params) (f.ended .kept)
 stayed = (gave-ref (0 ∷ []) tt (plain (λ _. R)), tt)
