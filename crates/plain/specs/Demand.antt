@@ -17,7 +17,7 @@ use Rattle.order.specs.Bounded.{at-most-42}
 use Rattle.plain.specs.Plain.{Plain}
 use Rattle.plain.specs.Counted.{plain-holders}
 use Rattle.plain.specs.Runs.{plainAfter, run-plain}
-use Rattle.plain.specs.Log.{run-right, run-log}
+use Rattle.plain.specs.Log.{run-right, run-log, run-counts}
 use Rattle.plain.specs.Ended.{run-committed, run-ended}
 use Rattle.plain.specs.Begun.{run-begun, events-log}
 use Rattle.plain.specs.Quiet.{run-quiet}
@@ -27,6 +27,7 @@ pub demand3 : (c : Settings) (cs : List Call) → Demand3 c cs (afterCalls (fres
 demand3 c cs =
     record {
       commits = sym (events-log (fresh c) cs);
+      all = run-counts c cs;
       begun = run-begun c cs;
       answers = run-right c cs;
       ended = run-ended c cs;

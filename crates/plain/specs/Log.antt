@@ -2,7 +2,9 @@
 use mathlib.Core.Bool.{Bool, true, false, cond, not, _&&_}
 use mathlib.Core.List.{List, [], _∷_}
 use mathlib.Core.Path.{_≡_, refl, sym, ap, ap₂, _∙_, subst, subst₂}
-use Prim.Native.Nat.{ℕ, _≤_}
+use Prim.Native.Nat.{ℕ, _+_, _≤_}
+use native.Mathlib.Omega.{arith}
+use lib.ListN.{length}
 use lib.Dec.{ltb, leb, eqb}
 use borrow.Author.Tests.{ltb-false, eqb-true, eqb-false, eq-eqb}
 use Rattle.keys.specs.Keys.{has}
@@ -20,7 +22,7 @@ use Rattle.rules.specs.declared.answer.Step.{Step}
 use Rattle.rules.specs.declared.answer.StepReply as StepReply
 use Rattle.states.specs.Tests.{both, pick-by, pick}
 use Rattle.graph.specs.Cases.{Same, same, apart, compared}
-use Rattle.runs.specs.Calls.{Call, begins, steps, afterCall, accepted}
+use Rattle.runs.specs.Calls.{Call, begins, steps, afterCall, afterCalls, accepted}
 use Rattle.runs.specs.Log.{commitsNow, Entry, entryOf, logOf, playLog, Right}
 use Rattle.order.specs.AtPhase.{at-phase}
 use Rattle.order.specs.Bridge.{place-at}
@@ -156,3 +158,32 @@ by-log {s} x (steps t ∷ cs) = by-log (call-plain x (steps t)) cs ∙ step-log 
 -- the plain set after any calls from fresh is that of their commits
 pub run-log : (c : Settings) (cs : List Call) → plainAfter (fresh c) cs 0 ≡ playLog 0 (logOf (fresh c) cs)
 run-log c cs = by-log (fresh-plain c) cs
+
+-- the count after one more call, by the log
+step-count : {s : State} {p : ℕ} → Plain s p → (t n : ℕ) (L : List Entry) → n ≡ stepOf s t .state .committed + length L
+    → n ≡ s .committed + length (cond (accepted s t && commitsNow s t) (entryOf t (threadAt (after s t) t) ∷ L) L)
+step-count {s} x t n L h = go (outcome s t)
+  where
+    by : t ≤ 7 → stepOf s t .state ≡ after s t → (b : Bool) → commitsNow s t ≡ b
+        → n ≡ s .committed + length (cond b (entryOf t (threadAt (after s t) t) ∷ L) L)
+    by l e true c =
+        let q = both (eqb (threadAt s t .phase) 5) (placeAt s (threadAt s t .base) .valid) c in
+        let d = commit-done s (x .inv .threads) l (eqb-true (threadAt s t .phase) 5 (q .0)) (q .1) in
+        omega (arith, h, ap (λ (z : State). z .committed) e, d .committed)
+    by l e false c = omega (arith, h, ap (λ (z : State). z .committed) e, count-stays x t L l c)
+
+    go : Outcome s t → n ≡ s .committed + length (cond (accepted s t && commitsNow s t) (entryOf t (threadAt (after s t) t) ∷ L) L)
+    go (leaves a e) = rw a (omega (arith, h, ap (λ (z : State). z .committed) e))
+    go (takes l m a e) = rw a (by l e (commitsNow s t) refl)
+
+counts : {s : State} {p : ℕ} → Plain s p → (cs : List Call) → afterCalls s cs .committed ≡ s .committed + length (logOf s cs)
+unfolding afterCalls afterCall logOf
+counts x [] = omega arith
+counts {s} x (begins t o k ∷ cs) = omega (arith, counts (call-plain x (begins t o k)) cs, begin-committed s t o k)
+counts {s} x (steps t ∷ cs) =
+    step-count x t (afterCalls (stepOf s t .state) cs .committed) (logOf (stepOf s t .state) cs) (counts (call-plain x (steps t)) cs)
+
+-- from fresh, the log has as many commits as are committed
+pub run-counts : (c : Settings) (cs : List Call) → afterCalls (fresh c) cs .committed ≡ length (logOf (fresh c) cs)
+unfolding fresh
+run-counts c cs = omega (arith, counts (fresh-plain c) cs)

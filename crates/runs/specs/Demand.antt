@@ -3,7 +3,7 @@ use mathlib.Core.Bool.{true, false}
 use mathlib.Core.List.{List}
 use mathlib.Core.Path.{_≡_}
 use Prim.Native.Nat.{ℕ, _≤_, _<_}
-use lib.ListN.{getD}
+use lib.ListN.{length, getD}
 use Rattle.keys.specs.Keys.{has}
 use Rattle.rules.specs.State.{fresh, placeAt, threadAt}
 use Rattle.rules.specs.Places.{isRoute, isBase, keysOf, routeKey, childOn}
@@ -22,8 +22,9 @@ use Rattle.runs.specs.Holders.{Reaches, Quiet, holders}
 
 -- c: the settings; cs: the calls; s: the state after them; events: their accepted begins and commits; log: the commits alone
 pub record Demand3 (c : Settings) (cs : List Call) (s : State) (events : List Event) (log : List Entry) : Type 0 where
-  -- the log has the commits in their order
+  -- the log has the commits in their order, all of them
   pub commits : log ≡ commitsIn events
+  pub all : s .committed ≡ length log
   -- each commit is of an operation that its thread has begun and not committed before
   pub begun : Fits nothingDue events
   -- commit numbers are 1, 2, 3, .., and each answer is that of one plain set, empty at first, that takes the commits in this order
