@@ -7,7 +7,7 @@ ghost use Prim.Native.Nat.{_+_, _-_, min};
 ghost use Rattle.rules.specs.State.{topStatistics};
 ghost use Rattle.rules.specs.Places.{taken, tried, taken3, taken4, released, zeroed};
 
-// A taking that leaves these statistics.
+// A taking that leaves these statistics; the record is lent, so that it is updated in its place.
 fn taken(l: Lock, me: u8, n: u32) -> Lock
     ensures { λ r. ⌜ r ≡ taken me n ⌝ }
 {

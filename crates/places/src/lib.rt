@@ -28,6 +28,7 @@ pub fn is_free(p: Place) -> bool
     l.holder == 8
 }
 
+// The keys of a base; a route has none.
 pub fn keys_of(p: Place) -> u64
     ensures { λ r. ⌜ r ≡ keysOf p ⌝ }
 {
@@ -42,6 +43,7 @@ pub fn keys_of(p: Place) -> u64
     }
 }
 
+// The key of a route; a base has none, and no row asks it: `stuck` comes first.
 pub fn route_key(p: Place) -> u8
     ensures { λ r. ⌜ r ≡ routeKey p ⌝ }
 {

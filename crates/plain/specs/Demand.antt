@@ -9,7 +9,7 @@ use Rattle.runs.specs.Demand.{Demand3}
 use Rattle.runs.specs.Calls.{Call, afterCalls}
 use Rattle.runs.specs.Passes.{one}
 use Rattle.runs.specs.Log.{logOf}
-use Rattle.runs.specs.Begun.{eventsOf}
+use Rattle.runs.specs.Events.{eventsOf}
 use Rattle.order.specs.Search.{left-smaller, right-not-smaller}
 use Rattle.order.specs.Reached.{met-reached, reached-is-met}
 use Rattle.order.specs.Refusal.{step-not-8, list-not-8}
@@ -18,8 +18,7 @@ use Rattle.plain.specs.Plain.{Plain}
 use Rattle.plain.specs.Counted.{plain-holders}
 use Rattle.plain.specs.Runs.{plainAfter, run-plain}
 use Rattle.plain.specs.Log.{run-right, run-log, run-counts}
-use Rattle.plain.specs.Ended.{run-committed, run-ended}
-use Rattle.plain.specs.Begun.{run-begun, events-log}
+use Rattle.plain.specs.Events.{run-fits, run-stands, events-log}
 use Rattle.plain.specs.Quiet.{run-quiet}
 
 -- every run has it
@@ -28,10 +27,9 @@ demand3 c cs =
     record {
       commits = sym (events-log (fresh c) cs);
       all = run-counts c cs;
-      begun = run-begun c cs;
+      operations = run-fits c cs;
+      standing = run-stands c cs;
       answers = run-right c cs;
-      ended = run-ended c cs;
-      committed = run-committed c cs;
       keys = λ j. plain-holders x j ∙ ap (λ (q : ℕ). one (has q j)) (run-log c cs);
       met = met-reached (x .inv);
       meets = reached-is-met (x .inv);

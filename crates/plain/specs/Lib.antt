@@ -10,8 +10,8 @@ pub mod Counted
 pub mod Runs
 pub mod Registers
 pub mod Log
-pub mod Ended
-pub mod Begun
+pub mod Goes
+pub mod Events
 pub mod Quiet
 pub mod CountedSteps
 pub mod Demand

@@ -6,7 +6,7 @@ use Prim.Native.Nat.{ℕ, _+_, _≤_}
 use native.Mathlib.Omega.{arith}
 use lib.ListN.{length}
 use lib.Dec.{ltb, leb, eqb}
-use borrow.Author.Tests.{ltb-false, eqb-true, eqb-false, eq-eqb}
+use borrow.Author.Tests.{ltb-false, eqb-true, eqb-false, eq-eqb, not-false}
 use Rattle.keys.specs.Keys.{has}
 use Rattle.rules.specs.State.{fresh, placeAt, threadAt}
 use Rattle.rules.specs.Places.{keysOf, keysAfter, answerOf}
@@ -33,8 +33,9 @@ use Rattle.plain.specs.Registers.{commit-done, step-same, end-same}
 
 -- an accepted step, or a refused one that leaves the state
 pub data Outcome (s : State) (t : ℕ) : Type 0 where
-  takes : t ≤ 7 → (threadAt s t .phase ≡ 0 → ⊥) → accepted s t ≡ true → stepOf s t .state ≡ after s t → Outcome s t
-  leaves : accepted s t ≡ false → stepOf s t .state ≡ s → Outcome s t
+  takes : t ≤ 7 → (threadAt s t .phase ≡ 0 → ⊥) → accepted s t ≡ true → stepOf s t .state ≡ after s t → inRange s ≡ true
+      → stepOf s t .reply ≡ replyOf s t → Outcome s t
+  leaves : accepted s t ≡ false → stepOf s t .state ≡ s → (n : ℕ) → stepOf s t .reply ≡ StepReply.the-variants.Refused n → Outcome s t
 
 pub outcome : (s : State) (t : ℕ) → Outcome s t
 unfolding stepOf replyOf
@@ -43,16 +44,17 @@ outcome s t =
     pick-by Q (not (inRange s)) (λ e z. out 7 refl z) (λ r.
     pick-by Q (ltb 7 t) (λ e z. out 3 refl z) (λ a.
     pick-by Q (eqb (threadAt s t .phase) 0) (λ e z. out 6 refl z) (λ b.
-    pick-by Q (stuck (viewOf s t)) (λ e z. out 8 refl z) (λ c z. into (ltb-false 7 t a) (eqb-false (threadAt s t .phase) 0 b) z)))) refl
+    pick-by Q (stuck (viewOf s t)) (λ e z. out 8 refl z) (λ c z. into (ltb-false 7 t a) (eqb-false (threadAt s t .phase) 0 b) (not-false _ r) z)))) refl
   where
     out : (n : ℕ) → eqb n 0 ≡ false → stepOf s t ≡ (record { reply = StepReply.the-variants.Refused n; state = s }) → Outcome s t
-    out n e z = leaves (ap (λ (b : Step). eqb (stepNumber (b .reply)) 0) z ∙ e) (ap (λ (b : Step). b .state) z)
+    out n e z = leaves (ap (λ (b : Step). eqb (stepNumber (b .reply)) 0) z ∙ e) (ap (λ (b : Step). b .state) z) n (ap (λ (b : Step). b .reply) z)
 
-    into : t ≤ 7 → (threadAt s t .phase ≡ 0 → ⊥) → stepOf s t ≡ (record { reply = replyOf s t; state = after s t }) → Outcome s t
-    into l n z =
+    into : t ≤ 7 → (threadAt s t .phase ≡ 0 → ⊥) → inRange s ≡ true → stepOf s t ≡ (record { reply = replyOf s t; state = after s t }) → Outcome s t
+    into l n r z =
         takes l n
         (ap (λ (b : Step). eqb (stepNumber (b .reply)) 0) z
-        ∙ pick (λ (b : StepReply.StepReply). eqb (stepNumber b) 0 ≡ true) (ends (threadAt s t)) refl refl) (ap (λ (b : Step). b .state) z)
+        ∙ pick (λ (b : StepReply.StepReply). eqb (stepNumber b) 0 ≡ true) (ends (threadAt s t)) refl refl) (ap (λ (b : Step). b .state) z) r
+        (ap (λ (b : Step). b .reply) z)
 
 begin-committed : (s : State) (t o k : ℕ) → beginOf s t o k .state .committed ≡ s .committed
 unfolding beginOf begun
@@ -119,8 +121,8 @@ module _ {s : State} {p : ℕ} (x : Plain s p) (t : ℕ) (L : List Entry) where
       go : Outcome s t
           → playLog (cond (accepted s t) (cond (commitsNow s t) (keysAfter (threadAt s t .operation) p (threadAt s t .key)) p) p) L
           ≡ playLog p (cond (accepted s t && commitsNow s t) (entryOf t (threadAt (after s t) t) ∷ L) L)
-      go (leaves a e) = rw a
-      go (takes l n a e) = rw a (taken l (commitsNow s t) refl)
+      go (leaves a e k w) = rw a
+      go (takes l n a e r w) = rw a (taken l (commitsNow s t) refl)
 
   step-right : Right (plainCall s (steps t) p) (afterCall s (steps t) .committed) L → Goal (accepted s t && commitsNow s t)
   unfolding plainCall afterCall
@@ -133,10 +135,10 @@ module _ {s : State} {p : ℕ} (x : Plain s p) (t : ℕ) (L : List Entry) where
           move L (ap (λ (b : Bool). cond b (plainThen s t p) p) a ∙ not-then c) (ap (λ (z : State). z .committed) e ∙ count-stays l c) y
 
       go : Outcome s t → Goal (accepted s t && commitsNow s t)
-      go (leaves a e) =
+      go (leaves a e k w) =
           subst (λ (b : Bool). Goal (b && commitsNow s t)) (sym a)
           (move L (ap (λ (b : Bool). cond b (plainThen s t p) p) a) (ap (λ (z : State). z .committed) e) y)
-      go (takes l n a e) = subst (λ (b : Bool). Goal (b && commitsNow s t)) (sym a) (taken l a e (commitsNow s t) refl)
+      go (takes l n a e r w) = subst (λ (b : Bool). Goal (b && commitsNow s t)) (sym a) (taken l a e (commitsNow s t) refl)
 
 right : {s : State} {p : ℕ} → Plain s p → (cs : List Call) → Right p (s .committed) (logOf s cs)
 unfolding logOf plainCall afterCall
@@ -173,8 +175,8 @@ step-count {s} x t n L h = go (outcome s t)
     by l e false c = omega (arith, h, ap (λ (z : State). z .committed) e, count-stays x t L l c)
 
     go : Outcome s t → n ≡ s .committed + length (cond (accepted s t && commitsNow s t) (entryOf t (threadAt (after s t) t) ∷ L) L)
-    go (leaves a e) = rw a (omega (arith, h, ap (λ (z : State). z .committed) e))
-    go (takes l m a e) = rw a (by l e (commitsNow s t) refl)
+    go (leaves a e k w) = rw a (omega (arith, h, ap (λ (z : State). z .committed) e))
+    go (takes l m a e r w) = rw a (by l e (commitsNow s t) refl)
 
 counts : {s : State} {p : ℕ} → Plain s p → (cs : List Call) → afterCalls s cs .committed ≡ s .committed + length (logOf s cs)
 unfolding afterCalls afterCall logOf

@@ -22,6 +22,7 @@ pub record Out : Type 0 where
   pub sheet : List ℕ
   pub player : Player
 
+-- a play that stands at this byte, in this stage and state
 abbrev pub standing : ℕ → ℕ → State → Player
 standing at stage s = record { at = at; stage = stage; state = s }
 
@@ -63,6 +64,7 @@ turnOf room file p =
     cond (narrow room) (silently 9 p)
     (cond (eqb (p .stage) 0) (firstTurn room file p) (cond (eqb (p .stage) 1) (lineTurn room file p) (silently 0 p)))
 
+-- a turn with this number, line length and player
 abbrev pub turn : ℕ → ℕ → Player → Turn
 turn number size p = record { number = number; length = size; player = p }
 

@@ -1,4 +1,4 @@
-// A schedule of any length, played one sheet line a call.
+// A whole schedule, played one sheet line a call.
 use rules::state::State;
 ghost use mathlib.Core.Path.{_≡_};
 ghost use Prim.Native.Nat.{_≤_};

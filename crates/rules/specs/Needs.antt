@@ -11,7 +11,7 @@ use Rattle.rules.specs.declared.state.Place.{Place}
 use Rattle.rules.specs.declared.row.View.{View}
 use Rattle.rules.specs.Rows.{aboveMax, belowMin}
 
--- register n, whose place is p, names a route; a base; is none or names a route
+-- register n, whose place is p, names a route
 abbrev pub route : ℕ → Place → Bool
 route n p = ltb n none && isRoute p
 
@@ -86,7 +86,7 @@ needs =
     ∷ baseB
     ∷ []
 
--- what no row needs
+-- a phase above 25 needs nothing: no row stands there
 abbrev pub idle : View → Bool
 idle v = true
 

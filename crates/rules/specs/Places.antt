@@ -32,7 +32,7 @@ keysOfBody (Route k l r) = 0
 abbrev pub keysOf : Place → ℕ
 keysOf p = keysOfBody (p .body)
 
--- the key, the left and the right child of a route
+-- the key of a route; 0 of a base, for which no row asks
 abbrev pub routeKeyOfBody : Body → ℕ
 routeKeyOfBody (Base ks) = 0
 routeKeyOfBody (Route k l r) = k

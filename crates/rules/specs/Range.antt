@@ -43,7 +43,7 @@ threadInRange made t =
     leb (t .phase) 25 && leb (t .operation) 2 && leb (t .key) 63 && leb (t .answer) 1 && leb (t .commit) 1000000
     && registersInRange made t
 
--- each place, each thread
+-- each place
 unfoldable pub placesInRange : ℕ → List Place → Bool
 placesInRange made [] = true
 placesInRange made (p ∷ ps) = placeInRange made p && placesInRange made ps

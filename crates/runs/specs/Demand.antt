@@ -16,23 +16,21 @@ use Rattle.rules.specs.declared.state.State.{State}
 use Rattle.rules.specs.declared.answer.ListReply as ListReply
 use Rattle.runs.specs.Calls.{Call}
 use Rattle.runs.specs.Passes.{one, passed}
-use Rattle.runs.specs.Log.{Entry, entryOf, playLog, Right, Logged, past, endedOf}
-use Rattle.runs.specs.Begun.{Event, commitsIn, Fits, nothingDue}
+use Rattle.runs.specs.Log.{Entry, playLog, Right}
+use Rattle.runs.specs.Events.{Event, commitsIn, nothingDue, Fits, dueAfter, dueOf}
 use Rattle.runs.specs.Holders.{Reaches, Quiet, holders}
 
--- c: the settings; cs: the calls; s: the state after them; events: their accepted begins and commits; log: the commits alone
+-- c: the settings; cs: the calls; s: the state after them; events: their accepted begins, commits and ends; log: the commits alone
 pub record Demand3 (c : Settings) (cs : List Call) (s : State) (events : List Event) (log : List Entry) : Type 0 where
   -- the log has the commits in their order, all of them
   pub commits : log ≡ commitsIn events
   pub all : s .committed ≡ length log
-  -- each commit is of an operation that its thread has begun and not committed before
-  pub begun : Fits nothingDue events
+  -- a thread commits what it has begun and not committed before, and an operation that ends replies with the answer and number of its commit
+  pub operations : Fits nothingDue events
+  -- by its registers too, a thread in phases 1 to 5 has begun and not committed, and one in 6 to 25 has committed so and not ended
+  pub standing : (t : ℕ) → t ≤ 7 → dueAfter nothingDue events t ≡ dueOf t (threadAt s t)
   -- commit numbers are 1, 2, 3, .., and each answer is that of one plain set, empty at first, that takes the commits in this order
   pub answers : Right 0 0 log
-  -- an operation that has ended replied with the answer and the number of its commit
-  pub ended : (e : Entry) → Logged e (endedOf (fresh c) cs) → Logged e log
-  -- an operation that is committed and not yet ended has them in its registers
-  pub committed : (t : ℕ) → t ≤ 7 → past (threadAt s t) → Logged (entryOf t (threadAt s t)) log
   -- of the reachable bases and the base registers of threads in phases 20 to 23, one has the key j if it is in the plain set, and none if not
   pub keys : (j : ℕ) → holders s j ≡ one (has (playLog 0 log) j)
   -- a node is reachable from the root exactly if the walk that lists keys meets it

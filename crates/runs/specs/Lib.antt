@@ -1,7 +1,7 @@
 pub mod Calls
 pub mod Passes
 pub mod Log
-pub mod Begun
+pub mod Events
 pub mod Holders
 pub mod Demand
 pub mod Instance

@@ -2,15 +2,14 @@
 use mathlib.Core.Bool.{Bool, cond, _&&_}
 use mathlib.Core.List.{List, [], _∷_}
 use mathlib.Core.Path.{_≡_}
-use Prim.Native.Nat.{ℕ, _+_, _≤_}
+use Prim.Native.Nat.{ℕ, _+_}
 use lib.Dec.{eqb}
 use Rattle.keys.specs.Keys.{has}
 use Rattle.rules.specs.State.{placeAt, threadAt}
 use Rattle.rules.specs.Places.{keysAfter, answerOf}
-use Rattle.rules.specs.Step.{after, stepOf}
+use Rattle.rules.specs.Step.{after}
 use Rattle.rules.specs.declared.state.Thread.{Thread}
 use Rattle.rules.specs.declared.state.State.{State}
-use Rattle.rules.specs.declared.answer.StepReply as StepReply
 use Rattle.runs.specs.Calls.{Call, begins, steps, afterCall, accepted}
 
 -- thread t's next step commits
@@ -48,27 +47,6 @@ Right p n [] = Unit {0}
 Right p n (e ∷ l) =
     (e .answer ≡ answerOf (e .operation) (has p (e .key))) × (e .number ≡ n + 1) × Right (keysAfter (e .operation) p (e .key)) (n + 1) l
 
--- e is in the log
-pub data Logged (e : Entry) : List Entry → Type 0 where
-  first : {d : Entry} {l : List Entry} → d ≡ e → Logged e (d ∷ l)
-  later : {d : Entry} {l : List Entry} → Logged e l → Logged e (d ∷ l)
-
--- a thread past its commit: phases 6 to 25
-abbrev pub past : Thread → Type 0
-past t = 6 ≤ t .phase
-
 -- a commit of the operation of thread n with the answer and the commit number of a reply
 abbrev pub replied : ℕ → Thread → ℕ → ℕ → Entry
 replied n t a m = record { thread = n; operation = t .operation; key = t .key; answer = a; number = m }
-
--- the reply of a step of thread n, whose registers are t, before the replies l; only one that ends an operation counts
-abbrev pub finished : ℕ → Thread → StepReply.StepReply → List Entry → List Entry
-finished n t (StepReply.the-variants.Ends a m) l = replied n t a m ∷ l
-finished n t (StepReply.the-variants.Goes p) l = l
-finished n t (StepReply.the-variants.Refused m) l = l
-
--- what the operations that end in some calls reply, in their order
-unfoldable pub endedOf : State → List Call → List Entry
-endedOf s [] = []
-endedOf s (begins t o k ∷ cs) = endedOf (afterCall s (begins t o k)) cs
-endedOf s (steps t ∷ cs) = finished t (threadAt s t) (stepOf s t .reply) (endedOf (afterCall s (steps t)) cs)

@@ -11,10 +11,11 @@ use Rattle.rules.specs.Answers.{stepNumber}
 use Rattle.rules.specs.declared.state.State.{State}
 use Rattle.runs.specs.Calls.{Call, begins, steps, afterCall}
 
--- a step at this phase starts a walk; goes on with one
+-- a step at this phase starts a walk
 abbrev pub walkStarts : ℕ → Bool
 walkStarts p = eqb p 1 || eqb p 9 || eqb p 15 || eqb p 21
 
+-- a step at this phase goes on with one
 abbrev pub walkGoesOn : ℕ → Bool
 walkGoesOn p = eqb p 2 || eqb p 10 || eqb p 16 || eqb p 22
 

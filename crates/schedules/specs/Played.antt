@@ -19,13 +19,13 @@ use Rattle.rules.specs.declared.answer.RunReply as RunReply
 use Rattle.rules.specs.declared.answer.ListReply as ListReply
 use Rattle.runs.specs.Calls.{Call, begins, steps, afterCall, afterCalls, times, takenBy}
 use Rattle.runs.specs.Log.{logOf, playLog}
-use Rattle.runs.specs.Begun.{eventsOf}
+use Rattle.runs.specs.Events.{eventsOf}
 use Rattle.runs.specs.Holders.{Quiet}
 use Rattle.runs.specs.Demand.{Demand3}
 use Rattle.states.specs.Tests.{pick}
 use Rattle.order.specs.Refusal.{run-not-8}
 use Rattle.order.specs.Invariant.{Invariant, fresh-kept, begin-kept, run-kept}
-use Rattle.plain.specs.CountedSteps.{run-is-steps}
+use Rattle.plain.specs.CountedSteps.{run-is-steps, Last, run-replies}
 use Rattle.plain.specs.Demand.{demand3}
 use Rattle.forms.specs.Form.{lineForm}
 use Rattle.forms.specs.declared.Line as Line
@@ -153,3 +153,8 @@ lines-kept i (l ∷ ls) = lines-kept (line-kept i (lineForm l)) ls
 -- no line of a schedule is refused with 8
 pub line-not-8 : (c : Settings) (ls : List (List ℕ)) (l : List ℕ) → playForm (afterLines (fresh c) ls) (lineForm l) .number ≡ 8 → ⊥
 line-not-8 c ls l = form-not-8 (lines-kept (fresh-kept c) ls) (lineForm l)
+
+-- the answer and the commit number of a `D` line are those with which the last step taken ends the operation
+pub end-of-line : (c : Settings) (ls : List (List ℕ)) (t n k a m : ℕ)
+    → runOf (afterLines (fresh c) ls) t n .reply ≡ RunReply.the-variants.Ends k a m → Last (afterLines (fresh c) ls) t k a m
+end-of-line c ls = run-replies (lines-kept (fresh-kept c) ls)

@@ -11,6 +11,7 @@ use Rattle.text.specs.Text.{Wrote, fitted}
 use Rattle.sheet.specs.Sheet.{Played, silent}
 use Rattle.sheet.specs.declared.calls.Answer.{Answer}
 
+-- an answer with this number, line length and state
 abbrev pub answer : ℕ → ℕ → State → Answer
 answer number size s = record { number = number; length = size; state = s }
 
