@@ -17,6 +17,7 @@ use Rattle.rules.specs.Step.{begun, beginOf, viewBefore, nextOf, viewOf, put, a
 use Rattle.runs.specs.Calls.{Call, begins, steps, afterCall, afterCalls, times}
 use Rattle.runs.specs.Passes.{one, takesRoute, passedBy, passes, passed}
 use Rattle.runs.specs.Log.{Entry, logOf, playLog}
+use Rattle.runs.specs.Events.{done, nothingDue, dueAfter, eventsOf}
 use Rattle.runs.specs.Holders.{howMany, holders}
 use Rattle.rules.specs.List.{unmet, again, meets, lists, gather, reached, keyListOf}
 
@@ -51,13 +52,15 @@ pub record Seen (s : State) (log : List Entry) : Type 0 where
   pub list : has (reached s .keys) 2 ≡ false
   pub count : holders s 2 ≡ 1
   pub numbers : map number log ≡ 1 ∷ 2 ∷ 3 ∷ 4 ∷ 5 ∷ 6 ∷ 7 ∷ []
+  -- the lookup of 2 that thread 0 has committed and not ended
+  pub stands : dueAfter nothingDue (eventsOf (fresh exampleSettings) exampleD) 0 ≡ done (record { thread = 0; operation = 2; key = 2; answer = 1; number = 7 })
   pub routes : passed 0 (fresh exampleSettings) exampleD 0 ≡ 1
   -- "Phase 23 using the parent that N had at phase 9: the splice may have changed it": four steps later 2, 5, 7 and 9 are listed, as in example C
   pub linked : keyListOf (afterCalls s (times 4 (steps 0))) ≡ Keys 676
 
 pub example-D : Seen (afterCalls (fresh exampleSettings) exampleD) (logOf (fresh exampleSettings) exampleD)
-unfolding one with without union below from rising listOf size splitKey fresh placeAt threadAt hangs searches seeks row1 row2 row3 row4 commits decides row5 noSplit split row6 row7 row8 row9 row10 row11 noJoin join row12 row13 row14 row15 row16 row17 row18 row19 row20 row21 row22 row23 row24 row25 row0 rows planOf needs stuck settingsInRange bodyInRange placeInRange registerInRange registersInRange threadInRange placesInRange threadsInRange countsInRange inRange begun beginOf viewBefore nextOf viewOf put apply after replyOf stepOf afterCall takesRoute passedBy passes passed unmet again meets lists gather reached howMany holders afterCalls logOf playLog times plays exampleD keyListOf
-example-D = record { phase = refl; set = refl; list = refl; count = refl; numbers = refl; routes = refl; linked = refl }
+unfolding one with without union below from rising listOf size splitKey fresh placeAt threadAt hangs searches seeks row1 row2 row3 row4 commits decides row5 noSplit split row6 row7 row8 row9 row10 row11 noJoin join row12 row13 row14 row15 row16 row17 row18 row19 row20 row21 row22 row23 row24 row25 row0 rows planOf needs stuck settingsInRange bodyInRange placeInRange registerInRange registersInRange threadInRange placesInRange threadsInRange countsInRange inRange begun beginOf viewBefore nextOf viewOf put apply after replyOf stepOf afterCall takesRoute passedBy passes passed unmet again meets lists gather reached howMany holders afterCalls logOf playLog times plays exampleD keyListOf eventsOf
+example-D = record { phase = refl; set = refl; list = refl; count = refl; numbers = refl; stands = refl; routes = refl; linked = refl }
 
 -- `R 1 2 -1 0`
 abbrev pub crossSettings : Settings
