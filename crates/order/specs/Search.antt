@@ -71,32 +71,41 @@ module _ {s : State} (i : Invariant s) where
   pub reached-in : {x : ℕ} → Reaches s (s .root) x → inTree w x
   reached-in p = met root-node p .node .inside
 
-  -- a key of a base below the child of x on side t goes to that side at x
-  turns : {x b : ℕ} (t : Bool) → Reaches s (s .root) x → isRoute (placeAt s x) ≡ true → Reaches s (childOn t (placeAt s x)) b
-      → isBase (placeAt s b) ≡ true → (j : ℕ) → has (keysOf (placeAt s b)) j ≡ true → not (ltb j (routeKey (placeAt s x))) ≡ t
-  turns {x} {b} t p r q f j h = rw (reads-key s (i .nodes .tree) (i .nodes .own) x (n .small)) (go (way (not (ltb j (cell w x .key))) t))
+  -- from a route down to a route numbers rise
+  starts : {a y : ℕ} → Reaches s a y → isRoute (placeAt s y) ≡ true → isRoute (placeAt s a) ≡ true
+  starts (at e) r = ap (λ (z : ℕ). isRoute (placeAt s z)) e ∙ r
+  starts (below x t b q) r = q
+
+  child-node : {x : ℕ} → Node x → isRoute (placeAt s x) ≡ true → (t : Bool) → Node (childOn t (placeAt s x))
+  child-node {x} n r t = rw (reads-kid s (i .nodes .tree) (i .nodes .own) t x (n .small)) (child x n r t)
+
+  rises : {x y : ℕ} → Node x → isRoute (placeAt s x) ≡ true → (t : Bool) → Reaches s (childOn t (placeAt s x)) y → isRoute (placeAt s y) ≡ true
+      → x < childOn t (placeAt s x)
+  rises {x} n r t b f =
+      let e = reads-kid s (i .nodes .tree) (i .nodes .own) t x (n .small) in
+      rw e
+      (sound .good .rises x (record { hung = sound .good .grown x (n .inside); route = sym (kind x (n .small)) ∙ r }) (n .small) t
+      (sym (ap (λ (z : ℕ). cell w z .route) e) ∙ sym (kind (childOn t (placeAt s x)) (child-node n r t .small)) ∙ starts b f))
+
+  climbs : {a y : ℕ} → Node a → Reaches s a y → isRoute (placeAt s y) ≡ true → a ≤ y
+  climbs n (at e) f = omega (arith, e)
+  climbs n (below x t b r) f = omega (arith, climbs (child-node n r t) b f, rises n r t b f)
+
+  -- a key that leads to a node below the child of x on side t goes to that side at x
+  sends : {x y : ℕ} (t : Bool) (p : Reaches s (s .root) x) (r : isRoute (placeAt s x) ≡ true) (q : Reaches s (childOn t (placeAt s x)) y) (j : ℕ)
+      → Walk (cell w) (by j) summit y → (x ≡ y → ⊥) → not (ltb j (routeKey (placeAt s x))) ≡ t
+  sends {x} {y} t p r q j leads apart = rw (reads-key s (i .nodes .tree) (i .nodes .own) x (n .small)) (go (way (not (ltb j (cell w x .key))) t))
     where
       n : Node x
       n = met root-node p .node
 
-      e : childOn t (placeAt s x) ≡ kid t (cell w x)
-      e = reads-kid s (i .nodes .tree) (i .nodes .own) t x (n .small)
-
-      k : Met (kid t (cell w x)) b
-      k = met (child x n r t) (rw e at q)
+      k : Met (kid t (cell w x)) y
+      k = met (child x n r t) (rw (reads-kid s (i .nodes .tree) (i .nodes .own) t x (n .small)) at q)
 
       route : cell w x .route ≡ true
       route = sym (kind x (n .small)) ∙ r
 
-      base : cell w b .route ≡ false
-      base = sym (kind b (k .node .small)) ∙ not-true (isRoute (placeAt s b)) f
-
-      leads : Walk (cell w) (by j) summit b
-      leads =
-          sound .belongs .leads b (k .node .inside) base j
-          (ap (λ (a : Place). has (keysOf a) j) (sym (place-at s b (k .node .small))) ∙ h)
-
-      passes : Through (cell w) (by j) summit x b
+      passes : Through (cell w) (by j) summit x y
       passes =
           rw (sound .good .head) at
           (through (sound .good .shape) (sound .good .once) (n .inside) (walk-from (sound .good .head) leads) (down x t (k .under) route))
@@ -105,8 +114,40 @@ module _ {s : State} (i : Invariant s) where
       go (onto a) = a
       go (off a) =
           absurd (sides-apart (sound .good .shape) (sound .good .once) x (n .inside) route t (k .under)
-          (below-from (ap (λ (c : Bool). kid c (cell w x)) (sym a))
-          (walk-below (first (passes .after) (λ z. true≢false (sym route ∙ ap (λ (m : ℕ). cell w m .route) z ∙ base)) .rest))))
+          (below-from (ap (λ (c : Bool). kid c (cell w x)) (sym a)) (walk-below (first (passes .after) apart .rest))))
+
+  -- what is reached below a node that is reached
+  below-node : {x y : ℕ} (t : Bool) → Reaches s (s .root) x → isRoute (placeAt s x) ≡ true → Reaches s (childOn t (placeAt s x)) y → Node y
+  below-node {x} t p r q =
+      let n = met root-node p .node in
+      met (child x n r t) (rw (reads-kid s (i .nodes .tree) (i .nodes .own) t x (n .small)) at q) .node
+
+  -- a key of a base below the child of x on side t goes to that side at x
+  turns : {x b : ℕ} (t : Bool) → Reaches s (s .root) x → isRoute (placeAt s x) ≡ true → Reaches s (childOn t (placeAt s x)) b
+      → isBase (placeAt s b) ≡ true → (j : ℕ) → has (keysOf (placeAt s b)) j ≡ true → not (ltb j (routeKey (placeAt s x))) ≡ t
+  turns {x} {b} t p r q f j h =
+      sends t p r q j
+      (sound .belongs .leads b (n .inside) (sym (kind b (n .small)) ∙ not-true (isRoute (placeAt s b)) f) j
+      (ap (λ (a : Place). has (keysOf a) j) (sym (place-at s b (n .small))) ∙ h))
+      (λ z. true≢false (sym r ∙ ap (λ (m : ℕ). isRoute (placeAt s m)) z ∙ not-true (isRoute (placeAt s b)) f))
+    where
+      n : Node b
+      n = below-node t p r q
+
+  -- so does the key of a route
+  turns-route : {x y : ℕ} (t : Bool) → Reaches s (s .root) x → isRoute (placeAt s x) ≡ true → Reaches s (childOn t (placeAt s x)) y
+      → isRoute (placeAt s y) ≡ true → not (ltb (routeKey (placeAt s y)) (routeKey (placeAt s x))) ≡ t
+  turns-route {x} {y} t p r q f =
+      sends t p r q (routeKey (placeAt s y))
+      (rw (reads-key s (i .nodes .tree) (i .nodes .own) y (n .small))
+      (sound .good .search y (n .inside) (sym (kind y (n .small)) ∙ f)))
+      (λ z. omega (arith, climbs (child-node m r t) q f, rises m r t q f, z))
+    where
+      n : Node y
+      n = below-node t p r q
+
+      m : Node x
+      m = met root-node p .node
 
   -- keys of bases on the left of a reachable route are smaller than its key
   pub left-smaller : {x b : ℕ} → Reaches s (s .root) x → isRoute (placeAt s x) ≡ true → Reaches s (childOn false (placeAt s x)) b
@@ -117,3 +158,12 @@ module _ {s : State} (i : Invariant s) where
   pub right-not-smaller : {x b : ℕ} → Reaches s (s .root) x → isRoute (placeAt s x) ≡ true → Reaches s (childOn true (placeAt s x)) b
       → isBase (placeAt s b) ≡ true → (j : ℕ) → has (keysOf (placeAt s b)) j ≡ true → routeKey (placeAt s x) ≤ j
   right-not-smaller {x} p r q f j h = ltb-false j (routeKey (placeAt s x)) (not-true (ltb j (routeKey (placeAt s x))) (turns true p r q f j h))
+
+  -- and so are the keys of the routes below it
+  pub left-route-smaller : {x y : ℕ} → Reaches s (s .root) x → isRoute (placeAt s x) ≡ true → Reaches s (childOn false (placeAt s x)) y
+      → isRoute (placeAt s y) ≡ true → routeKey (placeAt s y) < routeKey (placeAt s x)
+  left-route-smaller {x} {y} p r q f = ltb-true _ _ (not-false _ (turns-route false p r q f))
+
+  pub right-route-not-smaller : {x y : ℕ} → Reaches s (s .root) x → isRoute (placeAt s x) ≡ true → Reaches s (childOn true (placeAt s x)) y
+      → isRoute (placeAt s y) ≡ true → routeKey (placeAt s x) ≤ routeKey (placeAt s y)
+  right-route-not-smaller {x} {y} p r q f = ltb-false _ _ (not-true _ (turns-route true p r q f))

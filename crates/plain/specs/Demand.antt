@@ -10,7 +10,7 @@ use Rattle.runs.specs.Calls.{Call, afterCalls}
 use Rattle.runs.specs.Passes.{one}
 use Rattle.runs.specs.Log.{logOf}
 use Rattle.runs.specs.Events.{eventsOf}
-use Rattle.order.specs.Search.{left-smaller, right-not-smaller}
+use Rattle.order.specs.Search.{left-smaller, right-not-smaller, left-route-smaller, right-route-not-smaller}
 use Rattle.order.specs.Reached.{met-reached, reached-is-met}
 use Rattle.order.specs.Refusal.{step-not-8, list-not-8}
 use Rattle.order.specs.Bounded.{at-most-42}
@@ -36,6 +36,8 @@ demand3 c cs =
       listed = run-quiet c cs;
       left = λ y b j r t q f h. left-smaller (x .inv) r t q f j h;
       right = λ y b j r t q f h. right-not-smaller (x .inv) r t q f j h;
+      leftRoutes = λ y z r t q f. left-route-smaller (x .inv) r t q f;
+      rightRoutes = λ y z r t q f. right-route-not-smaller (x .inv) r t q f;
       routes = λ t. at-most-42 c t cs;
       steps = λ t. step-not-8 (x .inv) t;
       list = list-not-8 (x .inv);

@@ -43,6 +43,11 @@ pub record Demand3 (c : Settings) (cs : List Call) (s : State) (events : List Ev
       → isBase (placeAt s b) ≡ true → has (keysOf (placeAt s b)) j ≡ true → j < routeKey (placeAt s x)
   pub right : (x b j : ℕ) → Reaches s (s .root) x → isRoute (placeAt s x) ≡ true → Reaches s (childOn true (placeAt s x)) b
       → isBase (placeAt s b) ≡ true → has (keysOf (placeAt s b)) j ≡ true → routeKey (placeAt s x) ≤ j
+  -- and so are the keys of the routes below it
+  pub leftRoutes : (x y : ℕ) → Reaches s (s .root) x → isRoute (placeAt s x) ≡ true → Reaches s (childOn false (placeAt s x)) y
+      → isRoute (placeAt s y) ≡ true → routeKey (placeAt s y) < routeKey (placeAt s x)
+  pub rightRoutes : (x y : ℕ) → Reaches s (s .root) x → isRoute (placeAt s x) ≡ true → Reaches s (childOn true (placeAt s x)) y
+      → isRoute (placeAt s y) ≡ true → routeKey (placeAt s x) ≤ routeKey (placeAt s y)
   -- no walk passes more than 42 routes
   pub routes : (t : ℕ) → passed t (fresh c) cs 0 ≤ 42
   -- no step and no key list is refused with 8
