@@ -1,7 +1,7 @@
 -- Counted steps, one at a time: what a loop that has taken k of n steps knows.
-use mathlib.Core.Path.{_≡_, refl, sym, ap, _∙_}
-use mathlib.Core.Bool.{Bool, true, false}
-use Prim.Native.Nat.{ℕ, zero, suc, _+_, _-_, _≤_, _<_}
+use mathlib.Core.Path.{_≡_}
+use mathlib.Core.Bool.{true, false}
+use Prim.Native.Nat.{ℕ, suc, _+_, _-_, _≤_, _<_}
 use native.Mathlib.Numerals.{add-one}
 use native.Mathlib.Omega.{arith}
 use Rattle.states.specs.Calls.{steps-tests}
@@ -9,7 +9,6 @@ use Rattle.rules.specs.State.{threadAt}
 use Rattle.rules.specs.Needs.{stuck}
 use Rattle.rules.specs.Step.{viewOf, ends, after, refusedRun, steps}
 use Rattle.rules.specs.declared.state.State.{State}
-use Rattle.rules.specs.declared.answer.Run.{Run}
 use Rattle.rules.specs.declared.answer.RunReply.the-variants.{Stops, Ends}
 
 module _ (from s : State) (t n k : ℕ) where

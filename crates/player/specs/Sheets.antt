@@ -1,29 +1,27 @@
 -- The lines of the player, put together, are the sheet of the file.
-use mathlib.Core.Bool.{Bool, true, false, cond, not, _&&_, true≢false, false≢true}
+use mathlib.Core.Bool.{true, false, cond}
 use mathlib.Core.List.{List, [], _∷_, _++_, append-nil}
 use mathlib.Core.Path.{_≡_, refl, sym, ap, _∙_}
 use Prim.Native.Nat.{ℕ, zero, suc, _+_, _-_, _≤_, _<_}
-use native.Mathlib.Nat.{not-suc-le-zero}
 use native.Mathlib.Decide.{decLe}
 use native.Mathlib.Omega.{arith}
 use native.Mathlib.Numerals.{add-one}
 use borrow.Author.Tests.{lt-ltb, le-ltb, le-leb, lt-leb}
-use lib.Dec.{ltb, eqb}
+use lib.Dec.{eqb}
 use lib.ListN.{length, drop, drop-of-length-le, length-drop}
 use lib.Seq.{drop-drop}
 use Rattle.rules.specs.State.{fresh}
 use Rattle.rules.specs.List.{keyListOf}
 use Rattle.rules.specs.declared.state.Settings.{Settings}
-use Rattle.rules.specs.Range.{inRange, settingsInRange}
+use Rattle.rules.specs.Range.{inRange}
 use Rattle.rules.specs.declared.state.State.{State}
-use Rattle.rules.specs.declared.answer.BeginReply as BeginReply
-use Rattle.rules.specs.declared.answer.RunReply as RunReply
-use Rattle.rules.specs.Step.{zeroSettings, beginOf, runOf}
+use Rattle.rules.specs.Step.{zeroSettings}
 use Rattle.states.specs.Kept.{begin-in-range, run-in-range, fresh-in-range}
 use Rattle.text.specs.Text.{newline, until, fields, isLetter, lines, sheetLine}
 use Rattle.text.specs.Reading.{lines-cut}
 use Rattle.forms.specs.Form.{isFirst, settingsForm, ranged, firstForm, lineForm, first-in-range}
-use Rattle.sheet.specs.Sheet.{Played, narrow, refusal, firstPlayed, firstOf, beginLine, runLine, playForm, playLines, lineOf, endOf, endForm, playFirst, playAll, sheetOf}
+use Rattle.sheet.specs.States.{begin-state, run-state}
+use Rattle.sheet.specs.Sheet.{narrow, refusal, firstPlayed, firstOf, playForm, playLines, lineOf, endOf, endForm, playFirst, playAll, sheetOf}
 use Rattle.forms.specs.declared.First as First
 use Rattle.forms.specs.declared.Line as Line
 use Rattle.player.specs.Turns.{Out, standing, out, front, opened, firstTurn, lineTurn, turnOf}
@@ -35,17 +33,6 @@ written zero room file p = []
 written (suc n) room file p = turnOf room file p .sheet ++ written n room file (turnOf room file p .player)
 
 -- a line leaves a state in range
-begin-state : (t : ℕ) (s : State) (r : BeginReply.BeginReply) → beginLine t s r .state ≡ s
-unfolding beginLine
-begin-state t s BeginReply.the-variants.Begun = refl
-begin-state t s (BeginReply.the-variants.Refused n) = refl
-
-run-state : (t : ℕ) (s : State) (r : RunReply.RunReply) → runLine t s r .state ≡ s
-unfolding runLine
-run-state t s (RunReply.the-variants.Stops n p) = refl
-run-state t s (RunReply.the-variants.Ends n a c) = refl
-run-state t s (RunReply.the-variants.Refused n) = refl
-
 form-in-range : (s : State) (f : Line.Line) → inRange s ≡ true → inRange (playForm s f .state) ≡ true
 unfolding playForm
 form-in-range s (Line.the-variants.Begin t o k) h = rw begin-state (begin-in-range s t o k h)

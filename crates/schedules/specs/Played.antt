@@ -29,6 +29,7 @@ use Rattle.plain.specs.CountedSteps.{run-is-steps, Last, run-replies}
 use Rattle.plain.specs.Demand.{demand3}
 use Rattle.forms.specs.Form.{lineForm}
 use Rattle.forms.specs.declared.Line as Line
+use Rattle.sheet.specs.States.{begin-state, run-state}
 use Rattle.sheet.specs.Sheet.{beginLine, runLine, playForm, endText, endForm, playLines}
 
 -- the state after the lines of a schedule
@@ -52,18 +53,6 @@ calls-join : (s : State) (a b : List Call) → afterCalls s (a ++ b) ≡ afterCa
 unfolding afterCalls
 calls-join s [] b = refl
 calls-join s (c ∷ a) b = calls-join (afterCall s c) a b
-
--- the state of a begin line and of a step line is that of the call, whatever the reply
-begin-state : (t : ℕ) (s : State) (r : BeginReply.BeginReply) → beginLine t s r .state ≡ s
-unfolding beginLine
-begin-state t s BeginReply.the-variants.Begun = refl
-begin-state t s (BeginReply.the-variants.Refused n) = refl
-
-run-state : (t : ℕ) (s : State) (r : RunReply.RunReply) → runLine t s r .state ≡ s
-unfolding runLine
-run-state t s (RunReply.the-variants.Stops n p) = refl
-run-state t s (RunReply.the-variants.Ends n a c) = refl
-run-state t s (RunReply.the-variants.Refused n) = refl
 
 -- a line is its calls
 line-is-calls : {s : State} → Invariant s → (f : Line.Line) → playForm s f .state ≡ afterCalls s (callsBy s f)

@@ -1,3 +1,4 @@
 pub mod Sheet
+pub mod States
 pub mod Called
 pub mod Examples

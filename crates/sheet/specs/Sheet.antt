@@ -1,5 +1,5 @@
 -- Line calls and whole files: a schedule's key sheet, byte by byte.
-use mathlib.Core.Bool.{Bool, true, false, cond, not}
+use mathlib.Core.Bool.{Bool, cond, not}
 use mathlib.Core.List.{List, [], _∷_, _++_}
 use Prim.Native.Nat.{ℕ}
 use lib.Dec.{ltb}
@@ -12,7 +12,6 @@ use Rattle.rules.specs.List.{keyListOf}
 use Rattle.rules.specs.declared.state.State.{State}
 use Rattle.rules.specs.declared.answer.Begin.{Begin}
 use Rattle.rules.specs.declared.answer.BeginReply as BeginReply
-use Rattle.rules.specs.declared.answer.Run.{Run}
 use Rattle.rules.specs.declared.answer.RunReply as RunReply
 use Rattle.rules.specs.declared.answer.ListReply as ListReply
 use Rattle.text.specs.Text.{lines, sheetLine, keysLine}
