@@ -25,7 +25,7 @@ use Rattle.states.specs.Tests.{both, pick-by, pick}
 use Rattle.graph.specs.Cases.{Same, same, apart, compared}
 use Rattle.graph.specs.Count.{routes, routes-next, routes-upto, routes-grow}
 use Rattle.graph.specs.Graph.{summit}
-use Rattle.runs.specs.Calls.{Call, begins, steps, afterCall}
+use Rattle.runs.specs.Calls.{Move, begins, steps, afterMove}
 use Rattle.runs.specs.Passes.{one, walkStarts, walkGoesOn, takesRoute, passedBy, passes, passed}
 use Rattle.order.specs.World.{cellsOf}
 use Rattle.order.specs.Bridge.{reads-route, thread-other}
@@ -152,8 +152,8 @@ accepted-bound {s} i t u {n} l b =
     go false x y = stays i l (λ q. y refl (sym q)) b
 
 -- one call
-call-bound : {s : State} → Invariant s → (t : ℕ) {n : ℕ} → Bound s t n → (c : Call) → Bound (afterCall s c) t (passes t s c n)
-unfolding afterCall passes beginOf stepOf
+call-bound : {s : State} → Invariant s → (t : ℕ) {n : ℕ} → Bound s t n → (c : Move) → Bound (afterMove s c) t (passes t s c n)
+unfolding afterMove passes beginOf stepOf
 call-bound {s} i t {n} b (begins u o k) =
     let Q : Begin → Type 0 = λ z. Bound (z .state) t n in
     pick-by Q (not (inRange s)) (λ e. b) λ r.
@@ -170,16 +170,16 @@ call-bound {s} i t {n} b (steps u) =
     pick-by Q (stuck (viewOf s u)) (λ e. refused-bound (passedBy s t n) b (eqb u t)) λ g. accepted-bound i t u (ltb-false 7 u l) b
 
 -- a call keeps the invariant
-call-kept : {s : State} → Invariant s → (c : Call) → Invariant (afterCall s c)
-unfolding afterCall
+call-kept : {s : State} → Invariant s → (c : Move) → Invariant (afterMove s c)
+unfolding afterMove
 call-kept i (begins t o k) = begin-kept i t o k
 call-kept i (steps t) = step-kept i t
 
-calls-bound : {s : State} → Invariant s → (t : ℕ) {n : ℕ} → Bound s t n → (cs : List Call) → passed t s cs n ≤ 42
+calls-bound : {s : State} → Invariant s → (t : ℕ) {n : ℕ} → Bound s t n → (cs : List Move) → passed t s cs n ≤ 42
 unfolding passed
 calls-bound i t b [] = b .most
 calls-bound i t b (c ∷ cs) = calls-bound (call-kept i c) t (call-bound i t b c) cs
 
 -- no walk of any thread passes more than 42 routes, whatever the calls from a fresh state
-pub at-most-42 : (c : Settings) (t : ℕ) (cs : List Call) → passed t (fresh c) cs 0 ≤ 42
+pub at-most-42 : (c : Settings) (t : ℕ) (cs : List Move) → passed t (fresh c) cs 0 ≤ 42
 at-most-42 c t cs = calls-bound (fresh-kept c) t (record { most = omega arith; sofar = λ h. omega arith }) cs

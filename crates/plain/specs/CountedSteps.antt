@@ -19,15 +19,15 @@ use Rattle.rules.specs.declared.answer.RunReply as RunReply
 use Rattle.states.specs.Tests.{pick-by}
 use Rattle.states.specs.Calls.{steps-tests, run-tests}
 use Rattle.states.specs.Kept.{after-in-range}
-use Rattle.runs.specs.Calls.{Call, steps, afterCall, afterCalls, times, takenBy}
+use Rattle.runs.specs.Calls.{Move, steps, afterMove, afterMoves, times, takenBy}
 use Rattle.order.specs.Invariant.{Invariant, after-kept}
 use Rattle.plain.specs.Goes.{goes-on}
 
 -- one more at the end is one more at the front
-times-last : (s : State) (n : ℕ) (c : Call) → afterCalls s (times (suc n) c) ≡ afterCall (afterCalls s (times n c)) c
-unfolding times afterCalls
+times-last : (s : State) (n : ℕ) (c : Move) → afterMoves s (times (suc n) c) ≡ afterMove (afterMoves s (times n c)) c
+unfolding times afterMoves
 times-last s zero c = refl
-times-last s (suc n) c = times-last (afterCall s c) n c
+times-last s (suc n) c = times-last (afterMove s c) n c
 
 -- an accepted step
 accepts : (s : State) (t : ℕ) → inRange s ≡ true → t ≤ 7 → (threadAt s t .phase ≡ 0 → ⊥) → stuck (viewOf s t) ≡ false
@@ -40,8 +40,8 @@ accepts s t r l n e =
     pick-by Q (eqb (threadAt s t .phase) 0) (λ f. absurd (n (eqb-true (threadAt s t .phase) 0 f))) λ c.
     pick-by Q (stuck (viewOf s t)) (λ f. absurd (true≢false (sym f ∙ e))) λ d. refl
 
-taken : (s : State) (t : ℕ) → inRange s ≡ true → t ≤ 7 → (threadAt s t .phase ≡ 0 → ⊥) → stuck (viewOf s t) ≡ false → afterCall s (steps t) ≡ after s t
-unfolding afterCall
+taken : (s : State) (t : ℕ) → inRange s ≡ true → t ≤ 7 → (threadAt s t .phase ≡ 0 → ⊥) → stuck (viewOf s t) ≡ false → afterMove s (steps t) ≡ after s t
+unfolding afterMove
 taken s t r l n e = ap (λ (b : Step.Step). b .state) (accepts s t r l n e)
 
 refuses : {x j a c : ℕ} → RunReply.the-variants.Refused x ≡ RunReply.the-variants.Ends j a c → ⊥
@@ -51,16 +51,16 @@ refuses q = let w : _≡_ {A = ℕ} 0 1 = cc in omega arith
 pub record Last (s : State) (t k a c : ℕ) : Type 0 where
   pub before : ℕ
   pub count : k ≡ suc before
-  pub reply : stepOf (afterCalls s (times before (steps t))) t .reply ≡ StepReply.the-variants.Ends a c
+  pub reply : stepOf (afterMoves s (times before (steps t))) t .reply ≡ StepReply.the-variants.Ends a c
 
 -- counted steps, where some were taken
 module _ (from : State) (t : ℕ) (l : t ≤ 7) where
   abbrev Played : Run → Type 0
-  Played r = r .state ≡ afterCalls from (times (takenBy (r .reply)) (steps t))
+  Played r = r .state ≡ afterMoves from (times (takenBy (r .reply)) (steps t))
 
   played : (n : ℕ) (s : State) (k : ℕ) → Invariant s → inRange s ≡ true → (threadAt s t .phase ≡ 0 → ⊥)
-      → s ≡ afterCalls from (times k (steps t)) → Played (Rules.steps n from s t k)
-  unfolding Rules.steps times afterCalls
+      → s ≡ afterMoves from (times k (steps t)) → Played (Rules.steps n from s t k)
+  unfolding Rules.steps times afterMoves
   played zero s k i r n e = e
   played (suc m) s k i r n e =
       rw (steps-tests m from s t k)
@@ -68,15 +68,15 @@ module _ (from : State) (t : ℕ) (l : t ≤ 7) where
       pick-by Played (ends (threadAt s t)) (λ g. then f) λ g.
       played m (after s t) (suc k) (after-kept i l) (after-in-range s t l f r) (goes-on i r t l n g) (then f))
     where
-      then : stuck (viewOf s t) ≡ false → after s t ≡ afterCalls from (times (suc k) (steps t))
-      then f = sym (taken s t r l n f) ∙ ap (λ (x : State). afterCall x (steps t)) e ∙ sym (times-last from k (steps t))
+      then : stuck (viewOf s t) ≡ false → after s t ≡ afterMoves from (times (suc k) (steps t))
+      then f = sym (taken s t r l n f) ∙ ap (λ (x : State). afterMove x (steps t)) e ∙ sym (times-last from k (steps t))
 
   abbrev Told : Run → Type 0
   Told r = (j a c : ℕ) → r .reply ≡ RunReply.the-variants.Ends j a c → Last from t j a c
 
-  told : (n : ℕ) (s : State) (k : ℕ) → Invariant s → inRange s ≡ true → (threadAt s t .phase ≡ 0 → ⊥) → s ≡ afterCalls from (times k (steps t))
+  told : (n : ℕ) (s : State) (k : ℕ) → Invariant s → inRange s ≡ true → (threadAt s t .phase ≡ 0 → ⊥) → s ≡ afterMoves from (times k (steps t))
       → Told (Rules.steps n from s t k)
-  unfolding Rules.steps times afterCalls replyOf
+  unfolding Rules.steps times afterMoves replyOf
   told zero s k i r n e = λ j a c z. absurd (stops z)
     where
       stops : {x y j a c : ℕ} → RunReply.the-variants.Stops x y ≡ RunReply.the-variants.Ends j a c → ⊥
@@ -86,7 +86,7 @@ module _ (from : State) (t : ℕ) (l : t ≤ 7) where
       (pick-by Told (stuck (viewOf s t)) (λ f j a c z. absurd (refuses z)) λ f.
       pick-by Told (ends (threadAt s t)) (λ g j a c z. last f g z) λ g.
       told m (after s t) (suc k) (after-kept i l) (after-in-range s t l f r) (goes-on i r t l n g)
-      (sym (taken s t r l n f) ∙ ap (λ (x : State). afterCall x (steps t)) e ∙ sym (times-last from k (steps t))))
+      (sym (taken s t r l n f) ∙ ap (λ (x : State). afterMove x (steps t)) e ∙ sym (times-last from k (steps t))))
     where
       last : stuck (viewOf s t) ≡ false → ends (threadAt s t) ≡ true → {j a c : ℕ}
           → RunReply.the-variants.Ends (suc k) (threadAt s t .answer) (threadAt s t .commit) ≡ RunReply.the-variants.Ends j a c → Last from t j a c
@@ -106,10 +106,10 @@ module _ (from : State) (t : ℕ) (l : t ≤ 7) where
           }
 
 -- the state after counted steps is that after as many steps as the reply says were taken; none, where it refuses
-pub run-is-steps : {s : State} → Invariant s → (t n : ℕ) → runOf s t n .state ≡ afterCalls s (times (takenBy (runOf s t n .reply)) (steps t))
-unfolding times afterCalls
+pub run-is-steps : {s : State} → Invariant s → (t n : ℕ) → runOf s t n .state ≡ afterMoves s (times (takenBy (runOf s t n .reply)) (steps t))
+unfolding times afterMoves
 run-is-steps {s} i t n =
-    let Q : Run → Type 0 = λ r. r .state ≡ afterCalls s (times (takenBy (r .reply)) (steps t)) in
+    let Q : Run → Type 0 = λ r. r .state ≡ afterMoves s (times (takenBy (r .reply)) (steps t)) in
     rw (run-tests s t n)
     (pick-by Q (not (inRange s)) (λ e. refl) λ r.
     pick-by Q (ltb 7 t) (λ e. refl) λ l.
@@ -120,7 +120,7 @@ run-is-steps {s} i t n =
 
 -- and a reply that ends the operation is that of the last of them
 pub run-replies : {s : State} → Invariant s → (t n k a c : ℕ) → runOf s t n .reply ≡ RunReply.the-variants.Ends k a c → Last s t k a c
-unfolding times afterCalls
+unfolding times afterMoves
 run-replies {s} i t n =
     let Q : Run → Type 0 = λ r. (k a c : ℕ) → r .reply ≡ RunReply.the-variants.Ends k a c → Last s t k a c in
     rw (run-tests s t n)

@@ -6,7 +6,7 @@ use Rattle.keys.specs.Keys.{has}
 use Rattle.rules.specs.State.{fresh}
 use Rattle.rules.specs.declared.state.Settings.{Settings}
 use Rattle.runs.specs.Demand.{Demand3}
-use Rattle.runs.specs.Calls.{Call, afterCalls}
+use Rattle.runs.specs.Calls.{Move, afterMoves}
 use Rattle.runs.specs.Passes.{one}
 use Rattle.runs.specs.Log.{logOf}
 use Rattle.runs.specs.Events.{eventsOf}
@@ -22,7 +22,7 @@ use Rattle.plain.specs.Events.{run-fits, run-stands, events-log}
 use Rattle.plain.specs.Quiet.{run-quiet}
 
 -- every run has it
-pub demand3 : (c : Settings) (cs : List Call) → Demand3 c cs (afterCalls (fresh c) cs) (eventsOf (fresh c) cs) (logOf (fresh c) cs)
+pub demand3 : (c : Settings) (cs : List Move) → Demand3 c cs (afterMoves (fresh c) cs) (eventsOf (fresh c) cs) (logOf (fresh c) cs)
 demand3 c cs =
     record {
       commits = sym (events-log (fresh c) cs);
@@ -43,5 +43,5 @@ demand3 c cs =
       list = list-not-8 (x .inv);
     }
   where
-    x : Plain (afterCalls (fresh c) cs) (plainAfter (fresh c) cs 0)
+    x : Plain (afterMoves (fresh c) cs) (plainAfter (fresh c) cs 0)
     x = run-plain c cs

@@ -21,7 +21,7 @@ use Rattle.rules.specs.declared.answer.BeginReply.the-variants.{Refused}
 use Rattle.rules.specs.declared.answer.StepReply as StepReply
 use Rattle.states.specs.Tests.{both, pick-by}
 use Rattle.graph.specs.Cases.{Same, same, apart, compared}
-use Rattle.runs.specs.Calls.{Call, begins, steps, afterCall, afterCalls, isBegun, accepted}
+use Rattle.runs.specs.Calls.{Move, begins, steps, afterMove, afterMoves, isBegun, accepted}
 use Rattle.runs.specs.Log.{commitsNow, Entry, entryOf, logOf}
 use Rattle.runs.specs.Events.{Event, begin, commit, finished, eventsOf, commitsIn, Due, nothing, due, done, dueAt, nothingDue, Fits, dueAfter, dueOf}
 use Rattle.order.specs.Bridge.{thread-other}
@@ -196,16 +196,16 @@ step-story {s} {s′} i f a t L h (takes l n b z r y) = rw (b, y) (go (commitsNo
         rw q (record { fits = (end-due i f a l r e, x .fits); stands = x .stands })
     go false false c q = rw q (then f (other-agrees i f a l r n c q))
 
-calls-story : {s : State} → Invariant s → (cs : List Call) (f : ℕ → Due) → Agrees f s → Story f (eventsOf s cs) (afterCalls s cs)
-unfolding eventsOf afterCall afterCalls
+calls-story : {s : State} → Invariant s → (cs : List Move) (f : ℕ → Due) → Agrees f s → Story f (eventsOf s cs) (afterMoves s cs)
+unfolding eventsOf afterMove afterMoves
 calls-story i [] f a = record { fits = tt; stands = a }
 calls-story {s} i (begins t o k ∷ cs) f a =
     begin-story i f a t o k (eventsOf (beginOf s t o k .state) cs) (calls-story (begin-kept i t o k) cs) (start s t o k)
 calls-story {s} i (steps t ∷ cs) f a =
     step-story i f a t (eventsOf (stepOf s t .state) cs) (calls-story (step-kept i t) cs) (outcome s t)
 
-module _ (c : Settings) (cs : List Call) where
-  story : Story nothingDue (eventsOf (fresh c) cs) (afterCalls (fresh c) cs)
+module _ (c : Settings) (cs : List Move) where
+  story : Story nothingDue (eventsOf (fresh c) cs) (afterMoves (fresh c) cs)
   story =
       calls-story (fresh-kept c) cs nothingDue
       (λ t l. sym (due-at t (threadAt (fresh c) t) 0 (ap (λ (x : Thread). x .phase) (fresh-idle c t l))))
@@ -215,12 +215,12 @@ module _ (c : Settings) (cs : List Call) where
   run-fits = story .fits
 
   -- and lead to what the registers say
-  pub run-stands : (t : ℕ) → t ≤ 7 → dueAfter nothingDue (eventsOf (fresh c) cs) t ≡ dueOf t (threadAt (afterCalls (fresh c) cs) t)
+  pub run-stands : (t : ℕ) → t ≤ 7 → dueAfter nothingDue (eventsOf (fresh c) cs) t ≡ dueOf t (threadAt (afterMoves (fresh c) cs) t)
   run-stands = story .stands
 
 -- the commits among the events are the log
-pub events-log : (s : State) (cs : List Call) → commitsIn (eventsOf s cs) ≡ logOf s cs
-unfolding eventsOf commitsIn logOf afterCall
+pub events-log : (s : State) (cs : List Move) → commitsIn (eventsOf s cs) ≡ logOf s cs
+unfolding eventsOf commitsIn logOf afterMove
 events-log s [] = refl
 events-log s (begins t o k ∷ cs) = skip (isBegun s t o k) ∙ events-log (beginOf s t o k .state) cs
   where

@@ -22,13 +22,13 @@ use Rattle.rules.specs.declared.answer.Step.{Step}
 use Rattle.rules.specs.declared.answer.StepReply as StepReply
 use Rattle.states.specs.Tests.{both, pick-by, pick}
 use Rattle.graph.specs.Cases.{Same, same, apart, compared}
-use Rattle.runs.specs.Calls.{Call, begins, steps, afterCall, afterCalls, accepted}
+use Rattle.runs.specs.Calls.{Move, begins, steps, afterMove, afterMoves, accepted}
 use Rattle.runs.specs.Log.{commitsNow, Entry, entryOf, logOf, playLog, Right}
 use Rattle.order.specs.AtPhase.{at-phase}
 use Rattle.order.specs.Bridge.{place-at}
 use Rattle.plain.specs.Commit.{agrees}
 use Rattle.plain.specs.Plain.{Plain, plainThen, fresh-plain}
-use Rattle.plain.specs.Runs.{plainCall, plainAfter, call-plain}
+use Rattle.plain.specs.Runs.{plainMove, plainAfter, move-plain}
 use Rattle.plain.specs.Registers.{commit-done, step-same, end-same}
 
 -- an accepted step, or a refused one that leaves the state
@@ -106,8 +106,8 @@ module _ {s : State} {p : ℕ} (x : Plain s p) (t : ℕ) (L : List Entry) where
   not-then c = ap (λ (b : Bool). cond b (keysAfter (threadAt s t .operation) p (threadAt s t .key)) p) c
 
   -- the plain set by the log
-  step-log : playLog (plainCall s (steps t) p) L ≡ playLog p (cond (accepted s t && commitsNow s t) (entryOf t (threadAt (after s t) t) ∷ L) L)
-  unfolding plainCall plainThen playLog
+  step-log : playLog (plainMove s (steps t) p) L ≡ playLog p (cond (accepted s t && commitsNow s t) (entryOf t (threadAt (after s t) t) ∷ L) L)
+  unfolding plainMove plainThen playLog
   step-log = go (outcome s t)
     where
       taken : t ≤ 7 → (b : Bool) → commitsNow s t ≡ b
@@ -124,8 +124,8 @@ module _ {s : State} {p : ℕ} (x : Plain s p) (t : ℕ) (L : List Entry) where
       go (leaves a e k w) = rw a
       go (takes l n a e r w) = rw a (taken l (commitsNow s t) refl)
 
-  step-right : Right (plainCall s (steps t) p) (afterCall s (steps t) .committed) L → Goal (accepted s t && commitsNow s t)
-  unfolding plainCall afterCall
+  step-right : Right (plainMove s (steps t) p) (afterMove s (steps t) .committed) L → Goal (accepted s t && commitsNow s t)
+  unfolding plainMove afterMove
   step-right y = go (outcome s t)
     where
       taken : t ≤ 7 → accepted s t ≡ true → stepOf s t .state ≡ after s t → (b : Bool) → commitsNow s t ≡ b → Goal b
@@ -140,25 +140,25 @@ module _ {s : State} {p : ℕ} (x : Plain s p) (t : ℕ) (L : List Entry) where
           (move L (ap (λ (b : Bool). cond b (plainThen s t p) p) a) (ap (λ (z : State). z .committed) e) y)
       go (takes l n a e r w) = subst (λ (b : Bool). Goal (b && commitsNow s t)) (sym a) (taken l a e (commitsNow s t) refl)
 
-right : {s : State} {p : ℕ} → Plain s p → (cs : List Call) → Right p (s .committed) (logOf s cs)
-unfolding logOf plainCall afterCall
+right : {s : State} {p : ℕ} → Plain s p → (cs : List Move) → Right p (s .committed) (logOf s cs)
+unfolding logOf plainMove afterMove
 right x [] = tt
-right {s} x (begins t o k ∷ cs) = move (logOf (beginOf s t o k .state) cs) refl (begin-committed s t o k) (right (call-plain x (begins t o k)) cs)
-right {s} x (steps t ∷ cs) = step-right x t (logOf (stepOf s t .state) cs) (right (call-plain x (steps t)) cs)
+right {s} x (begins t o k ∷ cs) = move (logOf (beginOf s t o k .state) cs) refl (begin-committed s t o k) (right (move-plain x (begins t o k)) cs)
+right {s} x (steps t ∷ cs) = step-right x t (logOf (stepOf s t .state) cs) (right (move-plain x (steps t)) cs)
 
 -- from fresh, the commits of any calls answer as the plain set taken in commit order, starting empty, and are numbered from 1
-pub run-right : (c : Settings) (cs : List Call) → Right 0 0 (logOf (fresh c) cs)
+pub run-right : (c : Settings) (cs : List Move) → Right 0 0 (logOf (fresh c) cs)
 unfolding fresh
 run-right c cs = right (fresh-plain c) cs
 
-by-log : {s : State} {p : ℕ} → Plain s p → (cs : List Call) → plainAfter s cs p ≡ playLog p (logOf s cs)
-unfolding plainAfter logOf afterCall plainCall playLog
+by-log : {s : State} {p : ℕ} → Plain s p → (cs : List Move) → plainAfter s cs p ≡ playLog p (logOf s cs)
+unfolding plainAfter logOf afterMove plainMove playLog
 by-log x [] = refl
-by-log x (begins t o k ∷ cs) = by-log (call-plain x (begins t o k)) cs
-by-log {s} x (steps t ∷ cs) = by-log (call-plain x (steps t)) cs ∙ step-log x t (logOf (stepOf s t .state) cs)
+by-log x (begins t o k ∷ cs) = by-log (move-plain x (begins t o k)) cs
+by-log {s} x (steps t ∷ cs) = by-log (move-plain x (steps t)) cs ∙ step-log x t (logOf (stepOf s t .state) cs)
 
 -- the plain set after any calls from fresh is that of their commits
-pub run-log : (c : Settings) (cs : List Call) → plainAfter (fresh c) cs 0 ≡ playLog 0 (logOf (fresh c) cs)
+pub run-log : (c : Settings) (cs : List Move) → plainAfter (fresh c) cs 0 ≡ playLog 0 (logOf (fresh c) cs)
 run-log c cs = by-log (fresh-plain c) cs
 
 -- the count after one more call, by the log
@@ -178,14 +178,14 @@ step-count {s} x t n L h = go (outcome s t)
     go (leaves a e k w) = rw a (omega (arith, h, ap (λ (z : State). z .committed) e))
     go (takes l m a e r w) = rw a (by l e (commitsNow s t) refl)
 
-counts : {s : State} {p : ℕ} → Plain s p → (cs : List Call) → afterCalls s cs .committed ≡ s .committed + length (logOf s cs)
-unfolding afterCalls afterCall logOf
+counts : {s : State} {p : ℕ} → Plain s p → (cs : List Move) → afterMoves s cs .committed ≡ s .committed + length (logOf s cs)
+unfolding afterMoves afterMove logOf
 counts x [] = omega arith
-counts {s} x (begins t o k ∷ cs) = omega (arith, counts (call-plain x (begins t o k)) cs, begin-committed s t o k)
+counts {s} x (begins t o k ∷ cs) = omega (arith, counts (move-plain x (begins t o k)) cs, begin-committed s t o k)
 counts {s} x (steps t ∷ cs) =
-    step-count x t (afterCalls (stepOf s t .state) cs .committed) (logOf (stepOf s t .state) cs) (counts (call-plain x (steps t)) cs)
+    step-count x t (afterMoves (stepOf s t .state) cs .committed) (logOf (stepOf s t .state) cs) (counts (move-plain x (steps t)) cs)
 
 -- from fresh, the log has as many commits as are committed
-pub run-counts : (c : Settings) (cs : List Call) → afterCalls (fresh c) cs .committed ≡ length (logOf (fresh c) cs)
+pub run-counts : (c : Settings) (cs : List Move) → afterMoves (fresh c) cs .committed ≡ length (logOf (fresh c) cs)
 unfolding fresh
 run-counts c cs = omega (arith, counts (fresh-plain c) cs)

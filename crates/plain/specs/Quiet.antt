@@ -23,7 +23,7 @@ use Rattle.states.specs.Tests.{pick}
 use Rattle.states.specs.Gather.{entering, enters}
 use Rattle.states.specs.Whole.{HasSet, Whole, fresh-whole, begin-whole, step-whole}
 use Rattle.states.specs.Kept.{fresh-in-range, begin-in-range, step-in-range}
-use Rattle.runs.specs.Calls.{Call, begins, steps, afterCall, afterCalls}
+use Rattle.runs.specs.Calls.{Move, begins, steps, afterMove, afterMoves}
 use Rattle.runs.specs.Log.{Entry, logOf, playLog}
 use Rattle.runs.specs.Holders.{Quiet}
 use Rattle.order.specs.KeyList.{reached-once}
@@ -33,17 +33,17 @@ use Rattle.plain.specs.Runs.{plainAfter, run-plain}
 use Rattle.plain.specs.Log.{run-log}
 
 -- calls keep a state whole and in range
-calls-whole : (s : State) (cs : List Call) → Whole s → Whole (afterCalls s cs)
-unfolding afterCalls afterCall
+calls-whole : (s : State) (cs : List Move) → Whole s → Whole (afterMoves s cs)
+unfolding afterMoves afterMove
 calls-whole s [] x = x
-calls-whole s (begins t o k ∷ cs) x = calls-whole (afterCall s (begins t o k)) cs (begin-whole s t o k x)
-calls-whole s (steps t ∷ cs) x = calls-whole (afterCall s (steps t)) cs (step-whole s t x)
+calls-whole s (begins t o k ∷ cs) x = calls-whole (afterMove s (begins t o k)) cs (begin-whole s t o k x)
+calls-whole s (steps t ∷ cs) x = calls-whole (afterMove s (steps t)) cs (step-whole s t x)
 
-calls-in-range : (s : State) (cs : List Call) → inRange s ≡ true → inRange (afterCalls s cs) ≡ true
-unfolding afterCalls afterCall
+calls-in-range : (s : State) (cs : List Move) → inRange s ≡ true → inRange (afterMoves s cs) ≡ true
+unfolding afterMoves afterMove
 calls-in-range s [] x = x
-calls-in-range s (begins t o k ∷ cs) x = calls-in-range (afterCall s (begins t o k)) cs (begin-in-range s t o k x)
-calls-in-range s (steps t ∷ cs) x = calls-in-range (afterCall s (steps t)) cs (step-in-range s t x)
+calls-in-range s (begins t o k ∷ cs) x = calls-in-range (afterMove s (begins t o k)) cs (begin-in-range s t o k x)
+calls-in-range s (steps t ∷ cs) x = calls-in-range (afterMove s (steps t)) cs (step-in-range s t x)
 
 -- the plain set and the listed keys are sets of keys 0 to 63
 log-lt : (p : ℕ) (l : List Entry) → p < 2 ^ 64 → playLog p l < 2 ^ 64
@@ -78,17 +78,17 @@ none-retired s j q zero l = refl
 none-retired s j q (suc n) l = rw (q n (omega arith)) (none-retired s j q n (omega arith))
 
 -- after any calls from a fresh state with settings in range
-pub run-quiet : (c : Settings) (cs : List Call) → settingsInRange c ≡ true → Quiet (afterCalls (fresh c) cs)
-    → keyListOf (afterCalls (fresh c) cs) ≡ Keys (playLog 0 (logOf (fresh c) cs))
+pub run-quiet : (c : Settings) (cs : List Move) → settingsInRange c ≡ true → Quiet (afterMoves (fresh c) cs)
+    → keyListOf (afterMoves (fresh c) cs) ≡ Keys (playLog 0 (logOf (fresh c) cs))
 unfolding keyListOf
 run-quiet c cs r q =
     rw (calls-in-range (fresh c) cs (fresh-in-range c r), reached-once (x .inv))
     (ap Keys (same-keys (reached s .keys) p listed-lt (log-lt 0 (logOf (fresh c) cs) (omega arith)) (λ j l. agrees j)))
   where
     s : State
-    s = afterCalls (fresh c) cs
+    s = afterMoves (fresh c) cs
 
-    x : Plain (afterCalls (fresh c) cs) (plainAfter (fresh c) cs 0)
+    x : Plain (afterMoves (fresh c) cs) (plainAfter (fresh c) cs 0)
     x = run-plain c cs
 
     p : ℕ

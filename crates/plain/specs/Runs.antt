@@ -16,23 +16,23 @@ use Rattle.rules.specs.declared.answer.Begin.{Begin}
 use Rattle.rules.specs.declared.answer.Step.{Step}
 use Rattle.rules.specs.declared.answer.StepReply as StepReply
 use Rattle.states.specs.Tests.{pick-by, pick}
-use Rattle.runs.specs.Calls.{Call, begins, steps, afterCall, afterCalls, accepted}
+use Rattle.runs.specs.Calls.{Move, begins, steps, afterMove, afterMoves, accepted}
 use Rattle.plain.specs.Plain.{Plain, plainThen, fresh-plain, begun-plain, after-plain}
 
 -- the plain set after a call: only an accepted step that commits changes it
-unfoldable pub plainCall : State → Call → ℕ → ℕ
-plainCall s (begins t o k) p = p
-plainCall s (steps t) p = cond (accepted s t) (plainThen s t p) p
+unfoldable pub plainMove : State → Move → ℕ → ℕ
+plainMove s (begins t o k) p = p
+plainMove s (steps t) p = cond (accepted s t) (plainThen s t p) p
 
 -- the plain set after some calls
-unfoldable pub plainAfter : State → List Call → ℕ → ℕ
+unfoldable pub plainAfter : State → List Move → ℕ → ℕ
 plainAfter s [] p = p
-plainAfter s (c ∷ cs) p = plainAfter (afterCall s c) cs (plainCall s c p)
+plainAfter s (c ∷ cs) p = plainAfter (afterMove s c) cs (plainMove s c p)
 
 -- a call holds what the plain set then has
-pub call-plain : {s : State} {p : ℕ} → Plain s p → (c : Call) → Plain (afterCall s c) (plainCall s c p)
-unfolding afterCall plainCall beginOf stepOf replyOf
-call-plain {s} {p} x (begins t o k) =
+pub move-plain : {s : State} {p : ℕ} → Plain s p → (c : Move) → Plain (afterMove s c) (plainMove s c p)
+unfolding afterMove plainMove beginOf stepOf replyOf
+move-plain {s} {p} x (begins t o k) =
     let Q : Begin → Type 0 = λ b. Plain (b .state) p in
     pick-by Q (not (inRange s)) (λ e. x) λ r.
     pick-by Q (ltb 2 o) (λ e. x) λ a.
@@ -41,7 +41,7 @@ call-plain {s} {p} x (begins t o k) =
     pick-by Q (not (eqb (threadAt s t .phase) 0)) (λ e. x) λ d.
     pick-by Q (leb 1000000 (s .begun)) (λ e. x) λ g.
     begun-plain x t o k (ltb-false 7 t b) (ltb-false 63 k c) (eqb-true (threadAt s t .phase) 0 (not-false _ d))
-call-plain {s} {p} x (steps t) =
+move-plain {s} {p} x (steps t) =
     let Q : Step → Type 0 = λ b. Plain (b .state) (cond (eqb (stepNumber (b .reply)) 0) (plainThen s t p) p) in
     pick-by Q (not (inRange s)) (λ e. x) λ r.
     pick-by Q (ltb 7 t) (λ e. x) λ a.
@@ -50,11 +50,11 @@ call-plain {s} {p} x (steps t) =
     rw (pick (λ (z : StepReply.StepReply). eqb (stepNumber z) 0 ≡ true) (ends (threadAt s t)) refl refl) (after-plain x (ltb-false 7 t a))
 
 -- so do all calls
-pub calls-plain : {s : State} {p : ℕ} → Plain s p → (cs : List Call) → Plain (afterCalls s cs) (plainAfter s cs p)
-unfolding afterCalls plainAfter
-calls-plain x [] = x
-calls-plain x (c ∷ cs) = calls-plain (call-plain x c) cs
+pub moves-plain : {s : State} {p : ℕ} → Plain s p → (cs : List Move) → Plain (afterMoves s cs) (plainAfter s cs p)
+unfolding afterMoves plainAfter
+moves-plain x [] = x
+moves-plain x (c ∷ cs) = moves-plain (move-plain x c) cs
 
 -- after any calls from a fresh state
-pub run-plain : (c : Settings) (cs : List Call) → Plain (afterCalls (fresh c) cs) (plainAfter (fresh c) cs 0)
-run-plain c cs = calls-plain (fresh-plain c) cs
+pub run-plain : (c : Settings) (cs : List Move) → Plain (afterMoves (fresh c) cs) (plainAfter (fresh c) cs 0)
+run-plain c cs = moves-plain (fresh-plain c) cs

@@ -8,20 +8,20 @@ use Rattle.rules.specs.Answers.{beginNumber, stepNumber}
 use Rattle.rules.specs.declared.state.State.{State}
 use Rattle.rules.specs.declared.answer.RunReply as RunReply
 
--- a call: thread t begins operation o on key k, or takes one step
-pub data Call : Type 0 where
-  begins : (t o k : ℕ) → Call
-  steps : (t : ℕ) → Call
+-- a move: thread t begins operation o on key k, or takes one step
+pub data Move : Type 0 where
+  begins : (t o k : ℕ) → Move
+  steps : (t : ℕ) → Move
 
--- the state after a call, accepted or refused
-unfoldable pub afterCall : State → Call → State
-afterCall s (begins t o k) = beginOf s t o k .state
-afterCall s (steps t) = stepOf s t .state
+-- the state after a move, accepted or refused
+unfoldable pub afterMove : State → Move → State
+afterMove s (begins t o k) = beginOf s t o k .state
+afterMove s (steps t) = stepOf s t .state
 
--- the state after some calls
-unfoldable pub afterCalls : State → List Call → State
-afterCalls s [] = s
-afterCalls s (c ∷ cs) = afterCalls (afterCall s c) cs
+-- the state after some moves
+unfoldable pub afterMoves : State → List Move → State
+afterMoves s [] = s
+afterMoves s (c ∷ cs) = afterMoves (afterMove s c) cs
 
 -- the begin is accepted
 abbrev pub isBegun : State → ℕ → ℕ → ℕ → Bool
@@ -31,8 +31,8 @@ isBegun s t o k = eqb (beginNumber (beginOf s t o k .reply)) 0
 abbrev pub accepted : State → ℕ → Bool
 accepted s t = eqb (stepNumber (stepOf s t .reply)) 0
 
--- a call n times
-unfoldable pub times : ℕ → Call → List Call
+-- a move n times
+unfoldable pub times : ℕ → Move → List Move
 times zero c = []
 times (suc n) c = c ∷ times n c
 

@@ -9,7 +9,7 @@ use Rattle.rules.specs.Step.{after, stepOf}
 use Rattle.rules.specs.declared.state.Thread.{Thread}
 use Rattle.rules.specs.declared.state.State.{State}
 use Rattle.rules.specs.declared.answer.StepReply as StepReply
-use Rattle.runs.specs.Calls.{Call, begins, steps, afterCall, isBegun, accepted}
+use Rattle.runs.specs.Calls.{Move, begins, steps, afterMove, isBegun, accepted}
 use Rattle.runs.specs.Log.{commitsNow, Entry, entryOf, replied}
 
 -- thread t begins operation o on key k; an operation commits; one ends with this reply
@@ -24,14 +24,14 @@ finished n t (StepReply.the-variants.Ends a m) l = finish (replied n t a m) ∷ 
 finished n t (StepReply.the-variants.Goes p) l = l
 finished n t (StepReply.the-variants.Refused m) l = l
 
--- the accepted begins, the commits and the ends of some calls, in their order
-unfoldable pub eventsOf : State → List Call → List Event
+-- the accepted begins, the commits and the ends of some moves, in their order
+unfoldable pub eventsOf : State → List Move → List Event
 eventsOf s [] = []
 eventsOf s (begins t o k ∷ cs) =
-    cond (isBegun s t o k) (begin t o k ∷ eventsOf (afterCall s (begins t o k)) cs) (eventsOf (afterCall s (begins t o k)) cs)
+    cond (isBegun s t o k) (begin t o k ∷ eventsOf (afterMove s (begins t o k)) cs) (eventsOf (afterMove s (begins t o k)) cs)
 eventsOf s (steps t ∷ cs) =
-    cond (accepted s t && commitsNow s t) (commit (entryOf t (threadAt (after s t) t)) ∷ eventsOf (afterCall s (steps t)) cs)
-    (finished t (threadAt s t) (stepOf s t .reply) (eventsOf (afterCall s (steps t)) cs))
+    cond (accepted s t && commitsNow s t) (commit (entryOf t (threadAt (after s t) t)) ∷ eventsOf (afterMove s (steps t)) cs)
+    (finished t (threadAt s t) (stepOf s t .reply) (eventsOf (afterMove s (steps t)) cs))
 
 -- the commits among some events
 unfoldable pub commitsIn : List Event → List Entry

@@ -14,7 +14,7 @@ use Rattle.rules.specs.Rows.{hangs, searches, seeks, row1, row2, row3, row4, co
 use Rattle.rules.specs.Needs.{needs, stuck}
 use Rattle.rules.specs.Range.{settingsInRange, bodyInRange, placeInRange, registerInRange, registersInRange, threadInRange, placesInRange, threadsInRange, countsInRange, inRange}
 use Rattle.rules.specs.Step.{begun, beginOf, viewBefore, nextOf, viewOf, put, apply, after, replyOf, stepOf}
-use Rattle.runs.specs.Calls.{Call, begins, steps, afterCall, afterCalls, times}
+use Rattle.runs.specs.Calls.{Move, begins, steps, afterMove, afterMoves, times}
 use Rattle.runs.specs.Passes.{one, takesRoute, passedBy, passes, passed}
 use Rattle.runs.specs.Log.{Entry, logOf, playLog}
 use Rattle.runs.specs.Events.{done, nothingDue, dueAfter, eventsOf}
@@ -26,11 +26,11 @@ abbrev pub exampleSettings : Settings
 exampleSettings = record { succ = 1; fail = 3; low = 1; max = 2 }
 
 -- thread t begins operation o on key k and takes n steps
-unfoldable pub plays : ℕ → ℕ → ℕ → ℕ → List Call
+unfoldable pub plays : ℕ → ℕ → ℕ → ℕ → List Move
 plays t o k n = begins t o k ∷ times n (steps t)
 
 -- the begins and steps of example D
-unfoldable pub exampleD : List Call
+unfoldable pub exampleD : List Move
 exampleD =
     plays 0 0 5 4
     ++ plays 0 0 9 4
@@ -56,10 +56,10 @@ pub record Seen (s : State) (log : List Entry) : Type 0 where
   pub stands : dueAfter nothingDue (eventsOf (fresh exampleSettings) exampleD) 0 ≡ done (record { thread = 0; operation = 2; key = 2; answer = 1; number = 7 })
   pub routes : passed 0 (fresh exampleSettings) exampleD 0 ≡ 1
   -- "Phase 23 using the parent that N had at phase 9: the splice may have changed it": four steps later 2, 5, 7 and 9 are listed, as in example C
-  pub linked : keyListOf (afterCalls s (times 4 (steps 0))) ≡ Keys 676
+  pub linked : keyListOf (afterMoves s (times 4 (steps 0))) ≡ Keys 676
 
-pub example-D : Seen (afterCalls (fresh exampleSettings) exampleD) (logOf (fresh exampleSettings) exampleD)
-unfolding one with without union below from rising listOf size splitKey fresh placeAt threadAt hangs searches seeks row1 row2 row3 row4 commits decides row5 noSplit split row6 row7 row8 row9 row10 row11 noJoin join row12 row13 row14 row15 row16 row17 row18 row19 row20 row21 row22 row23 row24 row25 row0 rows planOf needs stuck settingsInRange bodyInRange placeInRange registerInRange registersInRange threadInRange placesInRange threadsInRange countsInRange inRange begun beginOf viewBefore nextOf viewOf put apply after replyOf stepOf afterCall takesRoute passedBy passes passed unmet again meets lists gather reached howMany holders afterCalls logOf playLog times plays exampleD keyListOf eventsOf
+pub example-D : Seen (afterMoves (fresh exampleSettings) exampleD) (logOf (fresh exampleSettings) exampleD)
+unfolding one with without union below from rising listOf size splitKey fresh placeAt threadAt hangs searches seeks row1 row2 row3 row4 commits decides row5 noSplit split row6 row7 row8 row9 row10 row11 noJoin join row12 row13 row14 row15 row16 row17 row18 row19 row20 row21 row22 row23 row24 row25 row0 rows planOf needs stuck settingsInRange bodyInRange placeInRange registerInRange registersInRange threadInRange placesInRange threadsInRange countsInRange inRange begun beginOf viewBefore nextOf viewOf put apply after replyOf stepOf afterMove takesRoute passedBy passes passed unmet again meets lists gather reached howMany holders afterMoves logOf playLog times plays exampleD keyListOf eventsOf
 example-D = record { phase = refl; set = refl; list = refl; count = refl; numbers = refl; stands = refl; routes = refl; linked = refl }
 
 -- `R 1 2 -1 0`
@@ -67,11 +67,11 @@ abbrev pub crossSettings : Settings
 crossSettings = record { succ = 1; fail = 2; low = 1; max = 0 }
 
 -- two lookups of k, d routes below the root, at one base: the second has to wait and splits it
-unfoldable pub contended : ℕ → ℕ → List Call
+unfoldable pub contended : ℕ → ℕ → List Move
 contended k d = plays 0 2 k (2 + d) ++ plays 1 2 k (2 + d) ++ times 2 (steps 0) ++ times 6 (steps 1)
 
 -- two joins that cross: thread 0 stands in phase 17, and thread 1 splices out the route that is its G; then thread 0 takes two steps
-unfoldable pub crossing : List Call
+unfoldable pub crossing : List Move
 crossing =
     plays 0 0 1 4
     ++ plays 0 0 2 4
@@ -92,8 +92,8 @@ crossing =
 pub record Crossed (s : State) : Type 0 where
   pub phase : threadAt s 0 .phase ≡ 15
   pub count : holders s 1 ≡ 1
-  pub list : keyListOf (afterCalls s (times 8 (steps 0))) ≡ Keys 126
+  pub list : keyListOf (afterMoves s (times 8 (steps 0))) ≡ Keys 126
 
-pub crossed : Crossed (afterCalls (fresh crossSettings) crossing)
-unfolding one with without union below from rising listOf size splitKey fresh placeAt threadAt hangs searches seeks row1 row2 row3 row4 commits decides row5 noSplit split row6 row7 row8 row9 row10 row11 noJoin join row12 row13 row14 row15 row16 row17 row18 row19 row20 row21 row22 row23 row24 row25 row0 rows planOf needs stuck settingsInRange bodyInRange placeInRange registerInRange registersInRange threadInRange placesInRange threadsInRange countsInRange inRange begun beginOf viewBefore nextOf viewOf put apply after replyOf stepOf afterCall takesRoute passedBy passes passed unmet again meets lists gather reached howMany holders afterCalls logOf playLog times plays contended crossing keyListOf
+pub crossed : Crossed (afterMoves (fresh crossSettings) crossing)
+unfolding one with without union below from rising listOf size splitKey fresh placeAt threadAt hangs searches seeks row1 row2 row3 row4 commits decides row5 noSplit split row6 row7 row8 row9 row10 row11 noJoin join row12 row13 row14 row15 row16 row17 row18 row19 row20 row21 row22 row23 row24 row25 row0 rows planOf needs stuck settingsInRange bodyInRange placeInRange registerInRange registersInRange threadInRange placesInRange threadsInRange countsInRange inRange begun beginOf viewBefore nextOf viewOf put apply after replyOf stepOf afterMove takesRoute passedBy passes passed unmet again meets lists gather reached howMany holders afterMoves logOf playLog times plays contended crossing keyListOf
 crossed = record { phase = refl; count = refl; list = refl }

@@ -10,7 +10,7 @@ use Rattle.rules.specs.Places.{keysAfter, answerOf}
 use Rattle.rules.specs.Step.{after}
 use Rattle.rules.specs.declared.state.Thread.{Thread}
 use Rattle.rules.specs.declared.state.State.{State}
-use Rattle.runs.specs.Calls.{Call, begins, steps, afterCall, accepted}
+use Rattle.runs.specs.Calls.{Move, begins, steps, afterMove, accepted}
 
 -- thread t's next step commits
 abbrev pub commitsNow : State → ℕ → Bool
@@ -28,13 +28,13 @@ pub record Entry : Type 0 where
 abbrev pub entryOf : ℕ → Thread → Entry
 entryOf n t = record { thread = n; operation = t .operation; key = t .key; answer = t .answer; number = t .commit }
 
--- the commits of some calls, in their order
-unfoldable pub logOf : State → List Call → List Entry
+-- the commits of some moves, in their order
+unfoldable pub logOf : State → List Move → List Entry
 logOf s [] = []
-logOf s (begins t o k ∷ cs) = logOf (afterCall s (begins t o k)) cs
+logOf s (begins t o k ∷ cs) = logOf (afterMove s (begins t o k)) cs
 logOf s (steps t ∷ cs) =
-    cond (accepted s t && commitsNow s t) (entryOf t (threadAt (after s t) t) ∷ logOf (afterCall s (steps t)) cs)
-    (logOf (afterCall s (steps t)) cs)
+    cond (accepted s t && commitsNow s t) (entryOf t (threadAt (after s t) t) ∷ logOf (afterMove s (steps t)) cs)
+    (logOf (afterMove s (steps t)) cs)
 
 -- the plain set p after some commits
 unfoldable pub playLog : ℕ → List Entry → ℕ

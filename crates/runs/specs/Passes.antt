@@ -9,7 +9,7 @@ use Rattle.rules.specs.Needs.{route}
 use Rattle.rules.specs.Step.{after, stepOf}
 use Rattle.rules.specs.Answers.{stepNumber}
 use Rattle.rules.specs.declared.state.State.{State}
-use Rattle.runs.specs.Calls.{Call, begins, steps, afterCall}
+use Rattle.runs.specs.Calls.{Move, begins, steps, afterMove}
 
 -- a step at this phase starts a walk
 abbrev pub walkStarts : ℕ → Bool
@@ -35,12 +35,12 @@ passedBy s t n =
     let p = threadAt s t .phase in
     cond (walkStarts p) (one (takesRoute s t)) (cond (walkGoesOn p) (n + one (takesRoute s t)) n)
 
--- after a call: only an accepted step of thread t counts
-unfoldable pub passes : ℕ → State → Call → ℕ → ℕ
+-- after a move: only an accepted step of thread t counts
+unfoldable pub passes : ℕ → State → Move → ℕ → ℕ
 passes t s (begins u o k) n = n
 passes t s (steps u) n = cond (eqb u t && eqb (stepNumber (stepOf s u .reply)) 0) (passedBy s t n) n
 
--- after some calls
-unfoldable pub passed : ℕ → State → List Call → ℕ → ℕ
+-- after some moves
+unfoldable pub passed : ℕ → State → List Move → ℕ → ℕ
 passed t s [] n = n
-passed t s (c ∷ cs) n = passed t (afterCall s c) cs (passes t s c n)
+passed t s (c ∷ cs) n = passed t (afterMove s c) cs (passes t s c n)

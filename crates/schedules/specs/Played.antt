@@ -17,7 +17,7 @@ use Rattle.rules.specs.declared.answer.Begin.{Begin}
 use Rattle.rules.specs.declared.answer.BeginReply as BeginReply
 use Rattle.rules.specs.declared.answer.RunReply as RunReply
 use Rattle.rules.specs.declared.answer.ListReply as ListReply
-use Rattle.runs.specs.Calls.{Call, begins, steps, afterCall, afterCalls, times, takenBy}
+use Rattle.runs.specs.Calls.{Move, begins, steps, afterMove, afterMoves, times, takenBy}
 use Rattle.runs.specs.Log.{logOf, playLog}
 use Rattle.runs.specs.Events.{eventsOf}
 use Rattle.runs.specs.Holders.{Quiet}
@@ -38,25 +38,25 @@ afterLines s [] = s
 afterLines s (l ∷ ls) = afterLines (playForm s (lineForm l) .state) ls
 
 -- the calls that a line comes to
-abbrev pub callsBy : State → Line.Line → List Call
+abbrev pub callsBy : State → Line.Line → List Move
 callsBy s (Line.the-variants.Begin t o k) = begins t o k ∷ []
 callsBy s (Line.the-variants.Steps t n) = times (takenBy (runOf s t n .reply)) (steps t)
 callsBy s Line.the-variants.Slip = []
 
 -- and all lines
-unfoldable pub callsOf : State → List (List ℕ) → List Call
+unfoldable pub callsOf : State → List (List ℕ) → List Move
 callsOf s [] = []
 callsOf s (l ∷ ls) = callsBy s (lineForm l) ++ callsOf (playForm s (lineForm l) .state) ls
 
 -- calls one after the other
-calls-join : (s : State) (a b : List Call) → afterCalls s (a ++ b) ≡ afterCalls (afterCalls s a) b
-unfolding afterCalls
+calls-join : (s : State) (a b : List Move) → afterMoves s (a ++ b) ≡ afterMoves (afterMoves s a) b
+unfolding afterMoves
 calls-join s [] b = refl
-calls-join s (c ∷ a) b = calls-join (afterCall s c) a b
+calls-join s (c ∷ a) b = calls-join (afterMove s c) a b
 
 -- a line is its calls
-line-is-calls : {s : State} → Invariant s → (f : Line.Line) → playForm s f .state ≡ afterCalls s (callsBy s f)
-unfolding playForm afterCalls afterCall
+line-is-calls : {s : State} → Invariant s → (f : Line.Line) → playForm s f .state ≡ afterMoves s (callsBy s f)
+unfolding playForm afterMoves afterMove
 line-is-calls {s} i (Line.the-variants.Begin t o k) = begin-state t (beginOf s t o k .state) (beginOf s t o k .reply)
 line-is-calls {s} i (Line.the-variants.Steps t n) = run-state t (runOf s t n .state) (runOf s t n .reply) ∙ run-is-steps i t n
 line-is-calls i Line.the-variants.Slip = refl
@@ -67,12 +67,12 @@ line-kept {s} i (Line.the-variants.Begin t o k) = rw (begin-state t (beginOf s t
 line-kept {s} i (Line.the-variants.Steps t n) = rw (run-state t (runOf s t n .state) (runOf s t n .reply)) (run-kept i t n)
 line-kept i Line.the-variants.Slip = i
 
-lines-are-calls : {s : State} → Invariant s → (ls : List (List ℕ)) → afterLines s ls ≡ afterCalls s (callsOf s ls)
-unfolding afterLines callsOf afterCalls
+lines-are-calls : {s : State} → Invariant s → (ls : List (List ℕ)) → afterLines s ls ≡ afterMoves s (callsOf s ls)
+unfolding afterLines callsOf afterMoves
 lines-are-calls i [] = refl
 lines-are-calls {s} i (l ∷ ls) =
     lines-are-calls (line-kept i (lineForm l)) ls
-    ∙ ap (λ (x : State). afterCalls x (callsOf (playForm s (lineForm l) .state) ls)) (line-is-calls i (lineForm l))
+    ∙ ap (λ (x : State). afterMoves x (callsOf (playForm s (lineForm l) .state) ls)) (line-is-calls i (lineForm l))
     ∙ sym (calls-join s (callsBy s (lineForm l)) (callsOf (playForm s (lineForm l) .state) ls))
 
 -- demand 3 holds after the lines of any schedule
