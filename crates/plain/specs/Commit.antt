@@ -1,13 +1,12 @@
 -- The commit: B has the key exactly if it is held, and what is held then is what the plain set has.
-use mathlib.Core.Bool.{Bool, true, false, cond, not, _||_, _&&_, true≢false}
+use mathlib.Core.Bool.{Bool, true, false, cond, true≢false}
 use mathlib.Core.Path.{_≡_, refl, sym, ap, _∙_}
 use Prim.Native.Nat.{ℕ, _≤_, _<_}
 use native.Mathlib.Omega.{arith}
 use lib.Dec.{ltb, eqb}
 use lib.ListN.{getD, length}
-use borrow.Author.Tests.{eq-eqb, ne-eqb}
-use Rattle.keys.specs.Keys.{has, with, without, size}
-use Rattle.keys.specs.Laws.{has-with, has-without}
+use borrow.Author.Tests.{ne-eqb}
+use Rattle.keys.specs.Keys.{has, size}
 use Rattle.rules.specs.State.{none, zeroPlace, placeAt, threadAt}
 use Rattle.rules.specs.Registers.{atPhase}
 use Rattle.rules.specs.Places.{keysOf, keysAfter, withKeys, release, zero}
@@ -24,6 +23,8 @@ use Rattle.graph.specs.Cases.{Same, same, apart, compared}
 use Rattle.graph.specs.Walk.{Cell, walks-meet}
 use Rattle.graph.specs.Tree.{count}
 use Rattle.graph.specs.Graph.{hung}
+use Rattle.runs.specs.PlainSet.{PlainSet, insert, delete}
+use Rattle.runs.specs.Tied.{keys-tied}
 use Rattle.runs.specs.Holders.{late}
 use Rattle.order.specs.World.{cellsOf, hold, valid, worldOf}
 use Rattle.order.specs.Stages.{Locked, Meets}
@@ -39,26 +40,17 @@ use Rattle.plain.specs.Steps.{next, held-on, held-back}
 
 -- an operation on key k leaves the other keys
 after-other : (o ks k j : ℕ) → k < 64 → (j ≡ k → ⊥) → has (keysAfter o ks k) j ≡ has ks j
-after-other o ks k j l n = go (eqb o 0) (eqb o 1)
-  where
-    go : (a b : Bool) → has (cond a (with ks k) (cond b (without ks k) ks)) j ≡ has ks j
-    go true b = has-with ks k j l ∙ ap (λ (x : Bool). x || has ks j) (ne-eqb j k n)
-    go false true = has-without ks k j ∙ ap (λ (x : Bool). not x && has ks j) (ne-eqb j k n)
-    go false false = refl
+after-other o ks k j l n =
+    keys-tied o ks k j l ∙ pick (λ (p : PlainSet). p j ≡ has ks j) (eqb o 0) (rw (ne-eqb j k n))
+    (pick (λ (p : PlainSet). p j ≡ has ks j) (eqb o 1) (rw (ne-eqb j k n)) refl)
 
 -- and does the same to k in two sets that agree on it
 after-own : (o a b k : ℕ) → k < 64 → has a k ≡ has b k → has (keysAfter o a k) k ≡ has (keysAfter o b k) k
-after-own o a b k l e = go (eqb o 0) (eqb o 1)
+after-own o a b k l e = keys-tied o a k k l ∙ go (eqb o 0) (eqb o 1) ∙ sym (keys-tied o b k k l)
   where
-    put-in : (m : ℕ) → has (with m k) k ≡ true
-    put-in m = has-with m k k l ∙ ap (λ (x : Bool). x || has m k) (eq-eqb k k refl)
-
-    taken-out : (m : ℕ) → has (without m k) k ≡ false
-    taken-out m = has-without m k k ∙ ap (λ (x : Bool). not x && has m k) (eq-eqb k k refl)
-
-    go : (x y : Bool) → has (cond x (with a k) (cond y (without a k) a)) k ≡ has (cond x (with b k) (cond y (without b k) b)) k
-    go true y = put-in a ∙ sym (put-in b)
-    go false true = taken-out a ∙ sym (taken-out b)
+    go : (x y : Bool) → cond x (insert k (has a)) (cond y (delete k (has a)) (has a)) k ≡ cond x (insert k (has b)) (cond y (delete k (has b)) (has b)) k
+    go true y = rw e
+    go false true = rw e
     go false false = e
 
 module _ {s : State} (r : Ordered s) (len : length (s .threads) ≡ 8) (room : length (s .places) ≡ 128) {me : ℕ} (l : me ≤ 7)

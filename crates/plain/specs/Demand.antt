@@ -1,13 +1,12 @@
 -- Demand 3 holds after any calls from a fresh state.
 use mathlib.Core.List.{List}
 use mathlib.Core.Path.{sym, ap, _∙_}
-use Prim.Native.Nat.{ℕ}
-use Rattle.keys.specs.Keys.{has}
 use Rattle.rules.specs.State.{fresh}
 use Rattle.rules.specs.declared.state.Settings.{Settings}
 use Rattle.runs.specs.Demand.{Demand3}
 use Rattle.runs.specs.Calls.{Move, afterMoves}
 use Rattle.runs.specs.Passes.{one}
+use Rattle.runs.specs.PlainSet.{PlainSet}
 use Rattle.runs.specs.Log.{logOf}
 use Rattle.runs.specs.Events.{eventsOf}
 use Rattle.order.specs.Search.{left-smaller, right-not-smaller, left-route-smaller, right-route-not-smaller}
@@ -30,7 +29,7 @@ demand3 c cs =
       operations = run-fits c cs;
       standing = run-stands c cs;
       answers = run-right c cs;
-      keys = λ j. plain-holders x j ∙ ap (λ (q : ℕ). one (has q j)) (run-log c cs);
+      keys = λ j. plain-holders x j ∙ ap (λ (q : PlainSet). one (q j)) (run-log c cs);
       met = met-reached (x .inv);
       meets = reached-is-met (x .inv);
       listed = run-quiet c cs;

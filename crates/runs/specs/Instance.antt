@@ -1,6 +1,6 @@
 -- Example D as a run: demand 3 speaks of something. Seven operations are committed. Thread 0 has spliced and not linked: key 2 of the plain set
 -- is in its base register alone, so the key list lacks it.
-use mathlib.Core.Bool.{true, false}
+use mathlib.Core.Bool.{false}
 use mathlib.Core.List.{List, [], _∷_, _++_, map}
 use mathlib.Core.Path.{_≡_, refl}
 use Prim.Native.Nat.{ℕ, _+_}
@@ -16,6 +16,7 @@ use Rattle.rules.specs.Range.{settingsInRange, bodyInRange, placeInRange, regis
 use Rattle.rules.specs.Step.{begun, beginOf, viewBefore, nextOf, viewOf, put, apply, after, replyOf, stepOf}
 use Rattle.runs.specs.Calls.{Move, begins, steps, afterMove, afterMoves, times}
 use Rattle.runs.specs.Passes.{one, takesRoute, passedBy, passes, passed}
+use Rattle.runs.specs.PlainSet.{empty, numbers, only, keysIn}
 use Rattle.runs.specs.Log.{Entry, logOf, playLog}
 use Rattle.runs.specs.Events.{done, nothingDue, dueAfter, eventsOf}
 use Rattle.runs.specs.Holders.{howMany, holders}
@@ -48,7 +49,7 @@ number e = e .number
 -- what the definitions say of the run
 pub record Seen (s : State) (log : List Entry) : Type 0 where
   pub phase : threadAt s 0 .phase ≡ 21
-  pub set : has (playLog 0 log) 2 ≡ true
+  pub set : keysIn (playLog empty log) ≡ 2 ∷ 5 ∷ 7 ∷ 9 ∷ []
   pub list : has (reached s .keys) 2 ≡ false
   pub count : holders s 2 ≡ 1
   pub numbers : map number log ≡ 1 ∷ 2 ∷ 3 ∷ 4 ∷ 5 ∷ 6 ∷ 7 ∷ []
@@ -59,7 +60,7 @@ pub record Seen (s : State) (log : List Entry) : Type 0 where
   pub linked : keyListOf (afterMoves s (times 4 (steps 0))) ≡ Keys 676
 
 pub example-D : Seen (afterMoves (fresh exampleSettings) exampleD) (logOf (fresh exampleSettings) exampleD)
-unfolding one with without union below from rising listOf size splitKey fresh placeAt threadAt hangs searches seeks row1 row2 row3 row4 commits decides row5 noSplit split row6 row7 row8 row9 row10 row11 noJoin join row12 row13 row14 row15 row16 row17 row18 row19 row20 row21 row22 row23 row24 row25 row0 rows planOf needs stuck settingsInRange bodyInRange placeInRange registerInRange registersInRange threadInRange placesInRange threadsInRange countsInRange inRange begun beginOf viewBefore nextOf viewOf put apply after replyOf stepOf afterMove takesRoute passedBy passes passed unmet again meets lists gather reached howMany holders afterMoves logOf playLog times plays exampleD keyListOf eventsOf
+unfolding one with without union below from rising listOf size splitKey fresh placeAt threadAt hangs searches seeks row1 row2 row3 row4 commits decides row5 noSplit split row6 row7 row8 row9 row10 row11 noJoin join row12 row13 row14 row15 row16 row17 row18 row19 row20 row21 row22 row23 row24 row25 row0 rows planOf needs stuck settingsInRange bodyInRange placeInRange registerInRange registersInRange threadInRange placesInRange threadsInRange countsInRange inRange begun beginOf viewBefore nextOf viewOf put apply after replyOf stepOf afterMove takesRoute passedBy passes passed unmet again meets lists gather reached howMany holders afterMoves logOf playLog numbers only times plays exampleD keyListOf eventsOf
 example-D = record { phase = refl; set = refl; list = refl; count = refl; numbers = refl; stands = refl; routes = refl; linked = refl }
 
 -- `R 1 2 -1 0`

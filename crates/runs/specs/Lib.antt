@@ -1,5 +1,7 @@
 pub mod Calls
 pub mod Passes
+pub mod PlainSet
+pub mod Tied
 pub mod Log
 pub mod Events
 pub mod Holders

@@ -4,13 +4,12 @@ use mathlib.Core.List.{List, [], _∷_}
 use mathlib.Core.Path.{_≡_}
 use Prim.Native.Nat.{ℕ, _+_}
 use lib.Dec.{eqb}
-use Rattle.keys.specs.Keys.{has}
 use Rattle.rules.specs.State.{placeAt, threadAt}
-use Rattle.rules.specs.Places.{keysAfter, answerOf}
 use Rattle.rules.specs.Step.{after}
 use Rattle.rules.specs.declared.state.Thread.{Thread}
 use Rattle.rules.specs.declared.state.State.{State}
 use Rattle.runs.specs.Calls.{Move, begins, steps, afterMove, accepted}
+use Rattle.runs.specs.PlainSet.{PlainSet, setAfter, replies}
 
 -- thread t's next step commits
 abbrev pub commitsNow : State → ℕ → Bool
@@ -37,15 +36,15 @@ logOf s (steps t ∷ cs) =
     (logOf (afterMove s (steps t)) cs)
 
 -- the plain set p after some commits
-unfoldable pub playLog : ℕ → List Entry → ℕ
+unfoldable pub playLog : PlainSet → List Entry → PlainSet
 playLog p [] = p
-playLog p (e ∷ l) = playLog (keysAfter (e .operation) p (e .key)) l
+playLog p (e ∷ l) = playLog (setAfter (e .operation) (e .key) p) l
 
--- from the plain set p and n commits on, each answer is that of the plain set and the numbers count on
-abbrev pub Right : ℕ → ℕ → List Entry → Type 0
+-- from the plain set p and n commits on, each answer is the reply of the plain set and the numbers count on
+abbrev pub Right : PlainSet → ℕ → List Entry → Type 0
 Right p n [] = Unit {0}
 Right p n (e ∷ l) =
-    (e .answer ≡ answerOf (e .operation) (has p (e .key))) × (e .number ≡ n + 1) × Right (keysAfter (e .operation) p (e .key)) (n + 1) l
+    (e .answer ≡ replies (e .operation) (e .key) p) × (e .number ≡ n + 1) × Right (setAfter (e .operation) (e .key) p) (n + 1) l
 
 -- a commit of the operation of thread n with the answer and the commit number of a reply
 abbrev pub replied : ℕ → Thread → ℕ → ℕ → Entry

@@ -5,7 +5,6 @@ use mathlib.Core.Path.{_≡_, refl, sym, ap, _∙_}
 use Prim.Native.Nat.{ℕ}
 use native.Mathlib.Omega.{arith}
 use lib.Dec.{ltb, leb, eqb}
-use Rattle.keys.specs.Keys.{listOf}
 use Rattle.rules.specs.State.{fresh, threadAt}
 use Rattle.rules.specs.Range.{settingsInRange, inRange}
 use Rattle.rules.specs.Step.{beginOf, runOf}
@@ -18,6 +17,7 @@ use Rattle.rules.specs.declared.answer.BeginReply as BeginReply
 use Rattle.rules.specs.declared.answer.RunReply as RunReply
 use Rattle.rules.specs.declared.answer.ListReply as ListReply
 use Rattle.runs.specs.Calls.{Move, begins, steps, afterMove, afterMoves, times, takenBy}
+use Rattle.runs.specs.PlainSet.{empty, keysIn}
 use Rattle.runs.specs.Log.{logOf, playLog}
 use Rattle.runs.specs.Events.{eventsOf}
 use Rattle.runs.specs.Holders.{Quiet}
@@ -95,14 +95,16 @@ sheet-ends s (l ∷ ls) =
     ∙ sym (append-assoc (playForm s (lineForm l) .sheet) (linesSheet (playForm s (lineForm l) .state) ls)
     (endForm (afterLines (playForm s (lineForm l) .state) ls) (keyListOf (afterLines (playForm s (lineForm l) .state) ls)) .sheet))
 
--- where no thread is in phases 20 to 23 at the end, `E` has the keys of the plain set
+-- where no thread is in phases 20 to 23 at the end, `E` has the keys of the plain set, rising
 pub sheet-ends-plain : (c : Settings) (ls : List (List ℕ)) → settingsInRange c ≡ true → Quiet (afterLines (fresh c) ls)
     → playLines (fresh c) ls
-    ≡ linesSheet (fresh c) ls ++ endText (afterLines (fresh c) ls) (listOf (playLog 0 (logOf (fresh c) (callsOf (fresh c) ls))))
+    ≡ linesSheet (fresh c) ls ++ endText (afterLines (fresh c) ls) (keysIn (playLog empty (logOf (fresh c) (callsOf (fresh c) ls))))
 unfolding endForm
 sheet-ends-plain c ls r q =
+    let k = schedule-demand3 c ls .listed r q in
     sheet-ends (fresh c) ls
-    ∙ ap (λ (x : ListReply.ListReply). linesSheet (fresh c) ls ++ endForm (afterLines (fresh c) ls) x .sheet) (schedule-demand3 c ls .listed r q)
+    ∙ ap (λ (x : ListReply.ListReply). linesSheet (fresh c) ls ++ endForm (afterLines (fresh c) ls) x .sheet) (k .accepted)
+    ∙ ap (λ (x : List ℕ). linesSheet (fresh c) ls ++ endText (afterLines (fresh c) ls) x) (k .rising)
 
 -- a begin is never refused with 8
 begin-not-8 : (s : State) (t o k : ℕ) → beginNumber (beginOf s t o k .reply) ≡ 8 → ⊥
