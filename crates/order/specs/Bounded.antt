@@ -151,10 +151,10 @@ accepted-bound {s} i t u {n} l b =
     go true x y = let q = x refl in rw q (moves i (rw q at l) b)
     go false x y = stays i l (λ q. y refl (sym q)) b
 
--- one call
-call-bound : {s : State} → Invariant s → (t : ℕ) {n : ℕ} → Bound s t n → (c : Move) → Bound (afterMove s c) t (passes t s c n)
+-- one move
+move-bound : {s : State} → Invariant s → (t : ℕ) {n : ℕ} → Bound s t n → (c : Move) → Bound (afterMove s c) t (passes t s c n)
 unfolding afterMove passes beginOf stepOf
-call-bound {s} i t {n} b (begins u o k) =
+move-bound {s} i t {n} b (begins u o k) =
     let Q : Begin → Type 0 = λ z. Bound (z .state) t n in
     pick-by Q (not (inRange s)) (λ e. b) λ r.
     pick-by Q (ltb 2 o) (λ e. b) λ x.
@@ -162,24 +162,24 @@ call-bound {s} i t {n} b (begins u o k) =
     pick-by Q (ltb 63 k) (λ e. b) λ y.
     pick-by Q (not (eqb (threadAt s u .phase) 0)) (λ e. b) λ d.
     pick-by Q (leb 1000000 (s .begun)) (λ e. b) λ g. begun-bound i t u o k (ltb-false 7 u l) b
-call-bound {s} i t {n} b (steps u) =
+move-bound {s} i t {n} b (steps u) =
     let Q : Step → Type 0 = λ z. Bound (z .state) t (cond (eqb u t && eqb (stepNumber (z .reply)) 0) (passedBy s t n) n) in
     pick-by Q (not (inRange s)) (λ e. refused-bound (passedBy s t n) b (eqb u t)) λ r.
     pick-by Q (ltb 7 u) (λ e. refused-bound (passedBy s t n) b (eqb u t)) λ l.
     pick-by Q (eqb (threadAt s u .phase) 0) (λ e. refused-bound (passedBy s t n) b (eqb u t)) λ d.
     pick-by Q (stuck (viewOf s u)) (λ e. refused-bound (passedBy s t n) b (eqb u t)) λ g. accepted-bound i t u (ltb-false 7 u l) b
 
--- a call keeps the invariant
-call-kept : {s : State} → Invariant s → (c : Move) → Invariant (afterMove s c)
+-- a move keeps the invariant
+pub move-kept : {s : State} → Invariant s → (c : Move) → Invariant (afterMove s c)
 unfolding afterMove
-call-kept i (begins t o k) = begin-kept i t o k
-call-kept i (steps t) = step-kept i t
+move-kept i (begins t o k) = begin-kept i t o k
+move-kept i (steps t) = step-kept i t
 
-calls-bound : {s : State} → Invariant s → (t : ℕ) {n : ℕ} → Bound s t n → (cs : List Move) → passed t s cs n ≤ 42
+moves-bound : {s : State} → Invariant s → (t : ℕ) {n : ℕ} → Bound s t n → (cs : List Move) → passed t s cs n ≤ 42
 unfolding passed
-calls-bound i t b [] = b .most
-calls-bound i t b (c ∷ cs) = calls-bound (call-kept i c) t (call-bound i t b c) cs
+moves-bound i t b [] = b .most
+moves-bound i t b (c ∷ cs) = moves-bound (move-kept i c) t (move-bound i t b c) cs
 
--- no walk of any thread passes more than 42 routes, whatever the calls from a fresh state
+-- no walk of any thread passes more than 42 routes, whatever the moves from a fresh state
 pub at-most-42 : (c : Settings) (t : ℕ) (cs : List Move) → passed t (fresh c) cs 0 ≤ 42
-at-most-42 c t cs = calls-bound (fresh-kept c) t (record { most = omega arith; sofar = λ h. omega arith }) cs
+at-most-42 c t cs = moves-bound (fresh-kept c) t (record { most = omega arith; sofar = λ h. omega arith }) cs

@@ -1,5 +1,6 @@
--- Counted steps are as many steps, one by one: what demand 3 says of calls it says of schedule lines.
+-- Counted steps are as many steps, one by one: calls come to the moves that `movesOf` says.
 use mathlib.Core.Bool.{Bool, true, false, cond, not, true≢false}
+use mathlib.Core.List.{List, [], _∷_, _++_}
 use mathlib.Core.Path.{_≡_, refl, sym, ap, ap₂, _∙_}
 use Prim.Native.Nat.{ℕ, zero, suc, _≤_}
 use native.Mathlib.Omega.{arith}
@@ -19,8 +20,9 @@ use Rattle.rules.specs.declared.answer.RunReply as RunReply
 use Rattle.states.specs.Tests.{pick-by}
 use Rattle.states.specs.Calls.{steps-tests, run-tests}
 use Rattle.states.specs.Kept.{after-in-range}
-use Rattle.runs.specs.Calls.{Move, steps, afterMove, afterMoves, times, takenBy}
-use Rattle.order.specs.Invariant.{Invariant, after-kept}
+use Rattle.runs.specs.Calls.{Move, steps, afterMove, afterMoves, times, takenBy, Call, move, counted, afterCall, afterCalls, movesBy, movesOf}
+use Rattle.order.specs.Invariant.{Invariant, after-kept, run-kept}
+use Rattle.order.specs.Bounded.{move-kept}
 use Rattle.plain.specs.Goes.{goes-on}
 
 -- one more at the end is one more at the front
@@ -130,3 +132,36 @@ run-replies {s} i t n =
     pick-by Q (ltb 1000 n) (λ e k a c z. absurd (refuses z)) λ y.
     pick-by Q (eqb (threadAt s t .phase) 0) (λ e k a c z. absurd (refuses z)) λ p.
     told s t (ltb-false 7 t l) n s 0 i (not-false _ r) (eqb-false (threadAt s t .phase) 0 p) refl)
+
+-- moves one after the other
+moves-join : (s : State) (a b : List Move) → afterMoves s (a ++ b) ≡ afterMoves (afterMoves s a) b
+unfolding afterMoves
+moves-join s [] b = refl
+moves-join s (m ∷ a) b = moves-join (afterMove s m) a b
+
+-- a call comes to its moves
+call-is-moves : {s : State} → Invariant s → (c : Call) → afterCall s c ≡ afterMoves s (movesBy s c)
+unfolding afterCall afterMoves
+call-is-moves i (move m) = refl
+call-is-moves i (counted t n) = run-is-steps i t n
+
+-- and keeps the invariant
+call-kept : {s : State} → Invariant s → (c : Call) → Invariant (afterCall s c)
+unfolding afterCall
+call-kept i (move m) = move-kept i m
+call-kept i (counted t n) = run-kept i t n
+
+-- so do all calls
+pub calls-kept : {s : State} → Invariant s → (cs : List Call) → Invariant (afterCalls s cs)
+unfolding afterCalls
+calls-kept i [] = i
+calls-kept i (c ∷ cs) = calls-kept (call-kept i c) cs
+
+-- from a state that has the invariant, such as a fresh one, calls come to their moves
+pub calls-are-moves : {s : State} → Invariant s → (cs : List Call) → afterCalls s cs ≡ afterMoves s (movesOf s cs)
+unfolding afterCalls movesOf afterMoves
+calls-are-moves i [] = refl
+calls-are-moves {s} i (c ∷ cs) =
+    calls-are-moves (call-kept i c) cs
+    ∙ ap (λ (x : State). afterMoves x (movesOf (afterCall s c) cs)) (call-is-moves i c)
+    ∙ sym (moves-join s (movesBy s c) (movesOf (afterCall s c) cs))

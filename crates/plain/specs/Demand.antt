@@ -4,11 +4,12 @@ use mathlib.Core.Path.{sym, ap, _∙_}
 use Rattle.rules.specs.State.{fresh}
 use Rattle.rules.specs.declared.state.Settings.{Settings}
 use Rattle.runs.specs.Demand.{Demand3}
-use Rattle.runs.specs.Calls.{Move, afterMoves}
+use Rattle.runs.specs.Calls.{Move, afterMoves, Call, afterCalls, movesOf}
 use Rattle.runs.specs.Passes.{one}
 use Rattle.runs.specs.PlainSet.{PlainSet}
 use Rattle.runs.specs.Log.{logOf}
 use Rattle.runs.specs.Events.{eventsOf}
+use Rattle.order.specs.Invariant.{fresh-kept}
 use Rattle.order.specs.Search.{left-smaller, right-not-smaller, left-route-smaller, right-route-not-smaller}
 use Rattle.order.specs.Reached.{met-reached, reached-is-met}
 use Rattle.order.specs.Refusal.{step-not-8, list-not-8}
@@ -19,11 +20,14 @@ use Rattle.plain.specs.Runs.{plainAfter, run-plain}
 use Rattle.plain.specs.Log.{run-right, run-log, run-counts}
 use Rattle.plain.specs.Events.{run-fits, run-stands, events-log}
 use Rattle.plain.specs.Quiet.{run-quiet}
+use Rattle.plain.specs.CountedSteps.{calls-are-moves}
 
--- every run has it
-pub demand3 : (c : Settings) (cs : List Move) → Demand3 c cs (afterMoves (fresh c) cs) (eventsOf (fresh c) cs) (logOf (fresh c) cs)
-demand3 c cs =
-    record {
+-- every run has it, whatever its begins, steps and counted steps
+pub demand3 : (c : Settings) (calls : List Call)
+    → Demand3 c calls (afterCalls (fresh c) calls) (eventsOf (fresh c) (movesOf (fresh c) calls)) (logOf (fresh c) (movesOf (fresh c) calls))
+demand3 c calls =
+    rw (calls-are-moves (fresh-kept c) calls)
+    (record {
       commits = sym (events-log (fresh c) cs);
       all = run-counts c cs;
       operations = run-fits c cs;
@@ -40,7 +44,10 @@ demand3 c cs =
       routes = λ t. at-most-42 c t cs;
       steps = λ t. step-not-8 (x .inv) t;
       list = list-not-8 (x .inv);
-    }
+    })
   where
+    cs : List Move
+    cs = movesOf (fresh c) calls
+
     x : Plain (afterMoves (fresh c) cs) (plainAfter (fresh c) cs 0)
     x = run-plain c cs

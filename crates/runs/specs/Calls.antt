@@ -1,9 +1,9 @@
--- Calls one after the other: begins and steps with any numbers, accepted or refused.
+-- Calls one after the other: begins, steps and counted steps with any numbers, accepted or refused; and the moves that they come to.
 use mathlib.Core.Bool.{Bool}
-use mathlib.Core.List.{List, [], _∷_}
+use mathlib.Core.List.{List, [], _∷_, _++_}
 use Prim.Native.Nat.{ℕ, zero, suc}
 use lib.Dec.{eqb}
-use Rattle.rules.specs.Step.{beginOf, stepOf}
+use Rattle.rules.specs.Step.{beginOf, stepOf, runOf}
 use Rattle.rules.specs.Answers.{beginNumber, stepNumber}
 use Rattle.rules.specs.declared.state.State.{State}
 use Rattle.rules.specs.declared.answer.RunReply as RunReply
@@ -41,3 +41,28 @@ abbrev pub takenBy : RunReply.RunReply → ℕ
 takenBy (RunReply.the-variants.Stops n p) = n
 takenBy (RunReply.the-variants.Ends n a c) = n
 takenBy (RunReply.the-variants.Refused n) = 0
+
+-- a call: a move, or counted steps: thread t is to take n of them
+pub data Call : Type 0 where
+  move : Move → Call
+  counted : (t n : ℕ) → Call
+
+-- the state after a call, accepted or refused
+unfoldable pub afterCall : State → Call → State
+afterCall s (move m) = afterMove s m
+afterCall s (counted t n) = runOf s t n .state
+
+-- the state after some calls
+unfoldable pub afterCalls : State → List Call → State
+afterCalls s [] = s
+afterCalls s (c ∷ cs) = afterCalls (afterCall s c) cs
+
+-- the moves that a call comes to: counted steps are as many steps as the reply says were taken
+abbrev pub movesBy : State → Call → List Move
+movesBy s (move m) = m ∷ []
+movesBy s (counted t n) = times (takenBy (runOf s t n .reply)) (steps t)
+
+-- the moves that some calls come to
+unfoldable pub movesOf : State → List Call → List Move
+movesOf s [] = []
+movesOf s (c ∷ cs) = movesBy s c ++ movesOf (afterCall s c) cs

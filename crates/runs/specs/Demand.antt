@@ -14,7 +14,7 @@ use Rattle.rules.specs.Answers.{stepNumber, listNumber}
 use Rattle.rules.specs.declared.state.Settings.{Settings}
 use Rattle.rules.specs.declared.state.State.{State}
 use Rattle.rules.specs.declared.answer.ListReply as ListReply
-use Rattle.runs.specs.Calls.{Move}
+use Rattle.runs.specs.Calls.{Call, movesOf}
 use Rattle.runs.specs.Passes.{one, passed}
 use Rattle.runs.specs.PlainSet.{PlainSet, empty, keysIn}
 use Rattle.runs.specs.Log.{Entry, playLog, Right}
@@ -29,7 +29,7 @@ pub record ListsThe (p : PlainSet) (s : State) : Type 0 where
   pub rising : listOf keys ≡ keysIn p
 
 -- c: the settings; cs: the calls; s: the state after them; events: their accepted begins, commits and ends; log: the commits alone
-pub record Demand3 (c : Settings) (cs : List Move) (s : State) (events : List Event) (log : List Entry) : Type 0 where
+pub record Demand3 (c : Settings) (cs : List Call) (s : State) (events : List Event) (log : List Entry) : Type 0 where
   -- the log has the commits in their order, all of them
   pub commits : log ≡ commitsIn events
   pub all : s .committed ≡ length log
@@ -57,7 +57,7 @@ pub record Demand3 (c : Settings) (cs : List Move) (s : State) (events : List Ev
   pub rightRoutes : (x y : ℕ) → Reaches s (s .root) x → isRoute (placeAt s x) ≡ true → Reaches s (childOn true (placeAt s x)) y
       → isRoute (placeAt s y) ≡ true → routeKey (placeAt s x) ≤ routeKey (placeAt s y)
   -- no walk passes more than 42 routes
-  pub routes : (t : ℕ) → passed t (fresh c) cs 0 ≤ 42
+  pub routes : (t : ℕ) → passed t (fresh c) (movesOf (fresh c) cs) 0 ≤ 42
   -- no step and no key list is refused with 8
   pub steps : (t : ℕ) → stepNumber (stepOf s t .reply) ≡ 8 → ⊥
   pub list : listNumber (keyListOf s) ≡ 8 → ⊥
