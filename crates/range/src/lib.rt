@@ -13,11 +13,12 @@ pub fn settings_in_range(c: Settings) -> bool
     (c.succ <= 1000) & (c.fail <= 1000) & (c.low <= 1000000) & (c.max <= 1000000)
 }
 
-fn body_in_range(made: u8, b: Body) -> bool
-    ensures { λ r. ⌜ r ≡ bodyInRange made b ⌝ }
+// The statistics are asked of a base alone.
+fn body_in_range(made: u8, statistics: u32, b: Body) -> bool
+    ensures { λ r. ⌜ r ≡ bodyInRange made statistics b ⌝ }
 {
     match b {
-        Body::Base { keys: _ } => true,
+        Body::Base { keys: _ } => statistics <= 4000000,
         Body::Route { key, left, right } => (key <= 63) & (left < made) & (right < made),
     }
 }
@@ -26,7 +27,7 @@ fn place_in_range(made: u8, p: Place) -> bool
     ensures { λ r. ⌜ r ≡ placeInRange made p ⌝ }
 {
     let b = p.body;
-    (p.lock.holder <= 8) & (p.lock.statistics <= 4000000) & body_in_range(made, b)
+    (p.lock.holder <= 8) & body_in_range(made, p.lock.statistics, b)
 }
 
 fn register_in_range(made: u8, r: u8) -> bool

@@ -16,14 +16,15 @@ use Rattle.rules.specs.declared.state.State.{State}
 unfoldable pub settingsInRange : Settings → Bool
 settingsInRange c = leb (c .succ) 1000 && leb (c .fail) 1000 && leb (c .low) 1000000 && leb (c .max) 1000000
 
--- any set of keys; of a route a key 0 to 63 and children that are made nodes
-unfoldable pub bodyInRange : ℕ → Body → Bool
-bodyInRange made (Base ks) = true
-bodyInRange made (Route k l r) = leb k 63 && ltb l made && ltb r made
+-- of a base any set of keys and statistics n within their stops; of a route, which has no statistics, a key 0 to 63 and children that are
+-- made nodes
+unfoldable pub bodyInRange : ℕ → ℕ → Body → Bool
+bodyInRange made n (Base ks) = leb n topStatistics
+bodyInRange made n (Route k l r) = leb k 63 && ltb l made && ltb r made
 
--- a holder that is none or a thread, statistics within their stops, and the body
+-- a holder that is none or a thread, and what a base or a route has
 unfoldable pub placeInRange : ℕ → Place → Bool
-placeInRange made p = leb (p .lock .holder) nobody && leb (p .lock .statistics) topStatistics && bodyInRange made (p .body)
+placeInRange made p = leb (p .lock .holder) nobody && bodyInRange made (p .lock .statistics) (p .body)
 
 -- "A node register is none or a made node"
 unfoldable pub registerInRange : ℕ → ℕ → Bool

@@ -1,5 +1,5 @@
 -- "A state is in range": the tests of the range as facts.
-use mathlib.Core.Bool.{Bool, true, false, cond, true≢false, or-true}
+use mathlib.Core.Bool.{Bool, true, false, cond, not, true≢false, or-true}
 use mathlib.Core.List.{List, [], _∷_, map}
 use mathlib.Core.Logic.{_⊎_, inl, inr, ⊎-map}
 use mathlib.Core.Path.{_≡_, refl, sym}
@@ -10,10 +10,9 @@ use lib.Dec.{leb, ltb, eqb}
 use lib.ListN.{getD}
 use Rattle.states.specs.Tests.{Hold, hold, each, both, either, pick}
 use Rattle.rules.specs.State.{none, nobody, topStatistics, zeroPlace, zeroThread, threadAt}
-use Rattle.rules.specs.Places.{isRouteBody, routeKeyOfBody, childOnBody}
+use Rattle.rules.specs.Places.{isRouteBody, isBase, routeKeyOfBody, childOnBody}
 use Rattle.rules.specs.Range.{settingsInRange, bodyInRange, placeInRange, registerInRange, registersInRange, threadInRange, placesInRange, threadsInRange, countsInRange, inRange}
 use Rattle.rules.specs.declared.state.Settings.{Settings}
-use Rattle.rules.specs.declared.state.Lock.{Lock}
 use Rattle.rules.specs.declared.state.Body.{Body}
 use Rattle.rules.specs.declared.state.Body.the-variants.{Base, Route}
 use Rattle.rules.specs.declared.state.Place.{Place}
@@ -27,19 +26,15 @@ pub record SettingsOk (c : Settings) : Type 0 where
   pub low : c .low ≤ 1000000
   pub max : c .max ≤ 1000000
 
--- a holder that is none or a thread, statistics within their stops
-pub record LockOk (l : Lock) : Type 0 where
-  pub holder : l .holder ≤ nobody
-  pub statistics : l .statistics ≤ topStatistics
-
 -- of a route a key 0 to 63 and children that are made nodes
 pub record BodyOk (made : ℕ) (b : Body) : Type 0 where
   pub key : routeKeyOfBody b ≤ 63
   pub child : (w : Bool) → isRouteBody b ≡ true → childOnBody w b < made
 
--- a place: its lock and its body
+-- a place: a holder that is none or a thread, of a base statistics within their stops, and the body
 pub record PlaceOk (made : ℕ) (p : Place) : Type 0 where
-  pub lock : LockOk (p .lock)
+  pub holder : p .lock .holder ≤ nobody
+  pub statistics : isBase p ≡ true → p .lock .statistics ≤ topStatistics
   pub body : BodyOk made (p .body)
 
 -- "A node register is none or a made node"
@@ -92,10 +87,15 @@ counts-facts s h =
     let f = hold (leb 1 (s .made)) rest h in
     omega (arith, leb-true, ltb-true)
 
-body-facts : (made : ℕ) (b : Body) → bodyInRange made b ≡ true → BodyOk made b
+statistics-facts : (made n : ℕ) (b : Body) → bodyInRange made n b ≡ true → not (isRouteBody b) ≡ true → n ≤ topStatistics
 unfolding bodyInRange
-body-facts made (Base ks) h = record { key = omega arith; child = λ w e. absurd (true≢false (sym e)) }
-body-facts made (Route k l r) h =
+statistics-facts made n (Base ks) h e = leb-true n topStatistics h
+statistics-facts made n (Route k l r) h e = absurd (true≢false (sym e))
+
+body-facts : (made n : ℕ) (b : Body) → bodyInRange made n b ≡ true → BodyOk made b
+unfolding bodyInRange
+body-facts made n (Base ks) h = record { key = omega arith; child = λ w e. absurd (true≢false (sym e)) }
+body-facts made n (Route k l r) h =
     let f = hold (leb k 63) (ltb l made ∷ ltb r made ∷ []) h in
     let child : (w : Bool) → cond w r l < made = λ w. pick (λ (n : ℕ). n < made) w (omega (arith, ltb-true)) (omega (arith, ltb-true)) in
     record { key = omega (arith, leb-true); child = λ w e. child w }
@@ -103,8 +103,13 @@ body-facts made (Route k l r) h =
 pub place-facts : (made : ℕ) (p : Place) → placeInRange made p ≡ true → PlaceOk made p
 unfolding placeInRange
 place-facts made p h =
-    let f = hold (leb (p .lock .holder) nobody) (leb (p .lock .statistics) topStatistics ∷ bodyInRange made (p .body) ∷ []) h in
-    record { lock = omega (arith, leb-true); body = body-facts made (p .body) (f .1 .1 .0) }
+    let n = p .lock .statistics in
+    let f = both (leb (p .lock .holder) nobody) (bodyInRange made n (p .body)) h in
+    record {
+      holder = omega (arith, leb-true);
+      statistics = statistics-facts made n (p .body) (f .1);
+      body = body-facts made n (p .body) (f .1);
+    }
 
 register-facts : (made r : ℕ) → registerInRange made r ≡ true → RegisterOk made r
 unfolding registerInRange
@@ -169,17 +174,17 @@ unfolding countsInRange
 counts-test s f =
     simp (le-leb _ _ (f .some), le-leb _ _ (f .most), le-leb _ _ (f .begun), le-leb _ _ (f .committed), lt-ltb _ _ (f .root))
 
-body-test : (made : ℕ) (b : Body) → BodyOk made b → bodyInRange made b ≡ true
+body-test : (made n : ℕ) (b : Body) → (not (isRouteBody b) ≡ true → n ≤ topStatistics) → BodyOk made b → bodyInRange made n b ≡ true
 unfolding bodyInRange
-body-test made (Base ks) f = refl
-body-test made (Route k l r) f = simp (le-leb _ _ (f .key), lt-ltb _ _ (f .child false refl), lt-ltb _ _ (f .child true refl))
+body-test made n (Base ks) g f = le-leb _ _ (g refl)
+body-test made n (Route k l r) g f = simp (le-leb _ _ (f .key), lt-ltb _ _ (f .child false refl), lt-ltb _ _ (f .child true refl))
 
 places-test : (made : ℕ) (ps : List Place) → ((n : ℕ) → PlaceOk made (getD ps n zeroPlace)) → placesInRange made ps ≡ true
 unfolding placesInRange placeInRange
 places-test made [] f = refl
 places-test made (p ∷ ps) f =
-    let l = f 0 .lock in
-    simp (le-leb _ _ (l .holder), le-leb _ _ (l .statistics), body-test made (p .body) (f 0 .body), places-test made ps (λ n. f (suc n)))
+    let g = f 0 in
+    simp (le-leb _ _ (g .holder), body-test made (p .lock .statistics) (p .body) (g .statistics) (g .body), places-test made ps (λ n. f (suc n)))
 
 register-test : (made r : ℕ) → RegisterOk made r → registerInRange made r ≡ true
 unfolding registerInRange

@@ -15,7 +15,7 @@ use Rattle.states.specs.Pieces.{phase-ok, prev-ok, made-ok, answer-ok, f
 use Rattle.states.specs.Common.{named, reg, nothing, stores1-ok, only-ok, goes-ok, hangs-ok, searches-ok}
 use Rattle.rules.specs.State.{none}
 use Rattle.rules.specs.Registers.{atPhase}
-use Rattle.rules.specs.Places.{isRoute, isFree, keysOf, release, withKeys, answerOf}
+use Rattle.rules.specs.Places.{isRoute, isBase, isFree, keysOf, release, withKeys, answerOf}
 use Rattle.rules.specs.Rows.{at, stores1, aboveMax, belowMin, keysThen, commits, decides, noSplit, split, row0, row1, row2, row3, row4, row5, row6, row7, row8, row25}
 use Rattle.rules.specs.Needs.{route, base, baseB, noneOrP, commitable}
 use Rattle.rules.specs.declared.state.Place.{Place}
@@ -75,16 +75,19 @@ module _ (v : View) (f : ViewOk v) where
 
   pub row5-ok : (baseB v && (not (v .base .valid) || commitable v)) ≡ true → PlanOk v (row5 v)
   unfolding row5
-  row5-ok h = go (v .base .valid) (both (baseB v) (not (v .base .valid) || commitable v) h .1)
+  row5-ok h =
+      let n = both (baseB v) (not (v .base .valid) || commitable v) h in
+      go (v .base .valid) (n .1) (both (ltb (v .thread .base) none) (isBase (v .base)) (n .0) .1)
     where
       invalidB : Plan
       invalidB = stores1 v (atPhase 1 (v .thread)) (at (v .thread .base) (release (v .base)))
 
-      go : (b : Bool) → (not b || commitable v) ≡ true → PlanOk v (cond b (decides v (withKeys (keysThen v) (v .base))) invalidB)
-      go true c =
+      go : (b : Bool) → (not b || commitable v) ≡ true → isBase (v .base) ≡ true
+          → PlanOk v (cond b (decides v (withKeys (keysThen v) (v .base))) invalidB)
+      go true c e =
           decides-ok _ (ltb-true _ _ (both (ltb (v .committed) (v .begun)) (aboveMax v || not (belowMin v) || noneOrP v) c .0))
-          (keys-ok (keysThen v) (f .base))
-      go false c = stores1-ok v f (phase-ok 1 tt (f .thread)) (release-ok (f .base))
+          (keys-ok (keysThen v) e (f .base))
+      go false c e = stores1-ok v f (phase-ok 1 tt (f .thread)) (release-ok (f .base))
 
   -- three new nodes
   split-ok : v .made ≤ 125 → 1 ≤ size (keysOf (v .base)) → PlanOk v (split v)

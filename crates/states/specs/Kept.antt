@@ -66,7 +66,7 @@ pub fresh-ok : (c : Settings) → settingsInRange c ≡ true → InRange (fresh 
 unfolding fresh threadAt threadInRange registersInRange registerInRange
 fresh-ok c h =
     let empty = base-body-ok 1 0 in
-    let unmade-ok : PlaceOk 1 unmade = record { lock = omega arith; body = empty } in
+    let unmade-ok : PlaceOk 1 unmade = record { holder = omega arith; statistics = λ e. omega arith; body = empty } in
     let others = each-replicate (PlaceOk 1) unmade-ok (zero-place-ok 1) 128 in
     record {
       settings = settings-facts c h;

@@ -1,5 +1,5 @@
 -- What rows do to a thread and to a place keeps each in range.
-use mathlib.Core.Bool.{Bool, true, false, true≢false}
+use mathlib.Core.Bool.{Bool, true, false, not, true≢false}
 use mathlib.Core.Logic.{inl, inr}
 use mathlib.Core.Path.{_≡_, refl, sym}
 use Prim.Native.Nat.{ℕ, _≤_, _<_}
@@ -7,11 +7,11 @@ use native.Mathlib.Omega.{arith}
 use lib.Dec.{T, eqb, leb, lit≤}
 use lib.ListN.{getD, set}
 use Rattle.states.specs.Tests.{pick}
-use Rattle.states.specs.Facts.{LockOk, BodyOk, PlaceOk, place-facts, RegisterOk, registersOf, ThreadOk, thread-facts}
+use Rattle.states.specs.Facts.{BodyOk, PlaceOk, place-facts, RegisterOk, registersOf, ThreadOk, thread-facts}
 use Rattle.states.specs.Lists.{each-set}
-use Rattle.rules.specs.State.{none, freshThread, newNode, zeroPlace}
+use Rattle.rules.specs.State.{none, nobody, topStatistics, freshThread, newNode, zeroPlace}
 use Rattle.rules.specs.Registers.{atPhase, setPrev, setBase, setWalk, setNeighbour, setGrandparent, setMade, setSide, setAnswer, setOperation}
-use Rattle.rules.specs.Places.{isRouteBody, childOnBody, childOn, swapBody, takesPlace, withLock, tried, taken3, taken4, released, zeroed, release, zero, invalid, withKeys, answerOf}
+use Rattle.rules.specs.Places.{isRouteBody, isBase, childOnBody, childOn, swapBody, takesPlace, withLock, tried, taken3, taken4, released, zeroed, release, zero, invalid, withKeys, answerOf}
 use Rattle.rules.specs.Range.{bodyInRange, placeInRange, registerInRange, registersInRange, threadInRange}
 use Rattle.rules.specs.declared.state.Settings.{Settings}
 use Rattle.rules.specs.declared.state.Lock.{Lock}
@@ -83,35 +83,36 @@ base-body-ok m ks = record { key = omega arith; child = λ w e. absurd (true≢f
 
 -- "New nodes are valid and free with statistics 0"
 pub new-ok : {m : ℕ} {b : Body} → BodyOk m b → PlaceOk m (newNode b)
-new-ok f = record { lock = omega arith; body = f }
+new-ok f = record { holder = omega arith; statistics = λ e. omega arith; body = f }
 
 module _ {m : ℕ} {p : Place} where
-  -- another lock
-  pub lock-ok : (l : Lock) → LockOk l → PlaceOk m p → PlaceOk m (withLock l p)
-  lock-ok l g f = record { lock = g; body = f .body }
+  -- another lock, whose statistics are within their stops if those before it were
+  lock-ok : (l : Lock) → l .holder ≤ nobody → (p .lock .statistics ≤ topStatistics → l .statistics ≤ topStatistics) → PlaceOk m p
+      → PlaceOk m (withLock l p)
+  lock-ok l h n f = record { holder = h; statistics = λ e. n (f .statistics e); body = f .body }
 
   -- "Taking at phase 3", "at phase 4", "A try on a neighbour, and route locks"
   pub taken3-ok : (me : ℕ) (c : Settings) → me ≤ 7 → PlaceOk m p → PlaceOk m (withLock (taken3 me c (p .lock)) p)
-  taken3-ok me c h f = let l = f .lock in lock-ok (taken3 me c (p .lock)) (omega arith) f
+  taken3-ok me c h f = lock-ok (taken3 me c (p .lock)) (omega arith) (λ n. omega arith) f
 
   pub taken4-ok : (me : ℕ) (c : Settings) → me ≤ 7 → PlaceOk m p → PlaceOk m (withLock (taken4 me c (p .lock)) p)
-  taken4-ok me c h f = let l = f .lock in lock-ok (taken4 me c (p .lock)) (omega arith) f
+  taken4-ok me c h f = lock-ok (taken4 me c (p .lock)) (omega arith) (λ n. omega arith) f
 
   pub tried-ok : (me : ℕ) → me ≤ 7 → PlaceOk m p → PlaceOk m (withLock (tried me (p .lock)) p)
-  tried-ok me h f = let l = f .lock in lock-ok (tried me (p .lock)) (omega arith) f
+  tried-ok me h f = lock-ok (tried me (p .lock)) (omega arith) (λ n. n) f
 
-  -- released; "statistics 0"; invalid; with other keys
+  -- released; "statistics 0"; invalid; a base with other keys
   pub release-ok : PlaceOk m p → PlaceOk m (release p)
-  release-ok f = let l = f .lock in lock-ok (released (p .lock)) (omega arith) f
+  release-ok f = lock-ok (released (p .lock)) (omega arith) (λ n. n) f
 
   pub zero-ok : PlaceOk m p → PlaceOk m (zero p)
-  zero-ok f = let l = f .lock in lock-ok (zeroed (p .lock)) (omega arith) f
+  zero-ok f = lock-ok (zeroed (p .lock)) (f .holder) (λ n. omega arith) f
 
   pub invalid-ok : PlaceOk m p → PlaceOk m (invalid p)
-  invalid-ok f = record { lock = f .lock; body = f .body }
+  invalid-ok f = record { holder = f .holder; statistics = f .statistics; body = f .body }
 
-  pub keys-ok : (ks : ℕ) → PlaceOk m p → PlaceOk m (withKeys ks p)
-  keys-ok ks f = record { lock = f .lock; body = base-body-ok m ks }
+  pub keys-ok : (ks : ℕ) → isBase p ≡ true → PlaceOk m p → PlaceOk m (withKeys ks p)
+  keys-ok ks b f = record { holder = f .holder; statistics = λ e. f .statistics b; body = base-body-ok m ks }
 
 -- the child of a place in range is a made node, or none where the place is a base
 pub child-ok : (m : ℕ) (w : Bool) (p : Place) → PlaceOk m p → RegisterOk m (childOn w p)
@@ -123,8 +124,13 @@ child-ok m w p f = go (p .body) (f .body .child w)
 
 -- a made node takes the place of a child
 pub takes-ok : {m : ℕ} {p : Place} (x new : ℕ) → new < m → PlaceOk m p → PlaceOk m (takesPlace x new p)
-takes-ok {m} {p} x new l f = record { lock = f .lock; body = go (p .body) (f .body) }
+takes-ok {m} {p} x new l f =
+    record { holder = f .holder; statistics = λ e. f .statistics (same (p .body) e); body = go (p .body) (f .body) }
   where
+    same : (b : Body) → not (isRouteBody (swapBody x new b)) ≡ true → not (isRouteBody b) ≡ true
+    same (Base ks) e = refl
+    same (Route k c d) e = pick (λ (b : Body). not (isRouteBody b) ≡ true → false ≡ true) (eqb c x) (λ a. a) (λ a. a) e
+
     go : (b : Body) → BodyOk m b → BodyOk m (swapBody x new b)
     go (Base ks) g = g
     go (Route k c d) g =

@@ -43,7 +43,7 @@ pub record PlanOk (v : View) (p : Plan) : Type 0 where
 place-more : {m n : ℕ} {p : Place} → m ≤ n → PlaceOk m p → PlaceOk n p
 place-more l f =
     let b = f .body in
-    record { lock = f .lock; body = record { key = b .key; child = λ w e. le-trans (b .child w e) l } }
+    record { holder = f .holder; statistics = f .statistics; body = record { key = b .key; child = λ w e. le-trans (b .child w e) l } }
 
 register-more : {m n r : ℕ} → m ≤ n → RegisterOk m r → RegisterOk n r
 register-more l (inl e) = inl e
