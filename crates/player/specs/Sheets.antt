@@ -1,48 +1,80 @@
--- The lines of the player, put together, are the sheet of the file.
-use mathlib.Core.Bool.{true, false, cond}
-use mathlib.Core.List.{List, [], _∷_, _++_, append-nil}
+-- What the calls of the player leave in the lent rooms, put together, is the sheet of the file.
+use mathlib.Core.Bool.{Bool, true, false, cond, and-eq-true-iff}
+use mathlib.Core.List.{List, [], _∷_, _++_, append-nil, append-assoc}
 use mathlib.Core.Path.{_≡_, refl, sym, ap, _∙_}
-use Prim.Native.Nat.{ℕ, zero, suc, _+_, _-_, _≤_, _<_}
+use Prim.Native.Nat.{ℕ, zero, suc, _+_, _-_, _≤_, _<_, zero-le}
 use native.Mathlib.Decide.{decLe}
 use native.Mathlib.Omega.{arith}
 use native.Mathlib.Numerals.{add-one}
-use borrow.Author.Tests.{lt-ltb, le-ltb, le-leb, lt-leb}
+use borrow.Author.Tests.{lt-ltb, le-ltb, le-leb, lt-leb, ltb-false, not-true}
 use lib.Dec.{eqb}
-use lib.ListN.{length, drop, drop-of-length-le, length-drop}
+use lib.ListN.{length, take, drop, drop-of-length-le, length-drop, length-append}
 use lib.Seq.{drop-drop}
 use Rattle.rules.specs.State.{fresh}
 use Rattle.rules.specs.List.{keyListOf}
-use Rattle.rules.specs.declared.state.Settings.{Settings}
 use Rattle.rules.specs.Range.{inRange}
 use Rattle.rules.specs.declared.state.State.{State}
-use Rattle.rules.specs.Step.{zeroSettings}
 use Rattle.states.specs.Kept.{begin-in-range, run-in-range, fresh-in-range}
-use Rattle.text.specs.Text.{newline, until, fields, isLetter, lines, sheetLine}
+use Rattle.text.specs.Text.{newline, until, fields, isLetter, lines}
 use Rattle.text.specs.Reading.{lines-cut}
 use Rattle.forms.specs.Form.{isFirst, settingsForm, ranged, firstForm, lineForm, first-in-range}
 use Rattle.sheet.specs.States.{begin-state, run-state}
 use Rattle.sheet.specs.Sheet.{narrow, refusal, firstPlayed, firstOf, playForm, playLines, lineOf, endOf, endForm, playFirst, playAll, sheetOf}
 use Rattle.forms.specs.declared.First as First
 use Rattle.forms.specs.declared.Line as Line
-use Rattle.player.specs.Turns.{Out, standing, out, front, opened, firstTurn, lineTurn, turnOf}
+use Rattle.player.specs.Turns.{Out, standing, out, front, opened, firstTurn, lineTurn, turnOf, turn-fits, Turned, turned-read}
+use Rattle.player.specs.Several.{behind, goesOn, turnsOf, severalOf}
 use Rattle.player.specs.declared.Player.{Player}
+use Rattle.player.specs.declared.Turn.{Turn}
 
--- what n calls write, one behind the other
-unfoldable pub written : ℕ → ℕ → List ℕ → Player → List ℕ
-written zero room file p = []
-written (suc n) room file p = turnOf room file p .sheet ++ written n room file (turnOf room file p .player)
+-- ---- calls
+
+-- a call: the room that was lent, what was answered, and the room then
+pub record Call : Type 0 where
+  pub before : List ℕ
+  pub answered : Turn
+  pub after : List ℕ
+
+-- calls one after the other from p on: each has 256 bytes of room or more, does what its contract says, and hands its player to the next
+pub data Calls (does : ℕ → List ℕ → Player → Out) (file : List ℕ) : Player → List Call → Type 0 where
+  none : {p : Player} → Calls does file p []
+  call : {p : Player} (c : Call) {cs : List Call} → 256 ≤ length (c .before)
+      → Turned (does (length (c .before)) file p) (c .before) (c .answered) (c .after)
+      → Calls does file (c .answered .player) cs
+      → Calls does file p (c ∷ cs)
+
+-- the bytes that calls leave at the front of their rooms, as many as they answer, put together
+unfoldable pub taken : List Call → List ℕ
+taken [] = []
+taken (c ∷ cs) = take (c .answered .length) (c .after) ++ taken cs
+
+-- ---- what is still to be written
+
+-- a play that began with `opened`: xs is what it has still to write
+pub data Rest (file : List ℕ) (p : Player) (xs : List ℕ) : Type 0 where
+  before : p ≡ opened → xs ≡ sheetOf file → Rest file p xs
+  among : (at : ℕ) (s : State) → p ≡ standing at 1 s → inRange s ≡ true → xs ≡ playLines s (lines (drop at file)) → Rest file p xs
+  ended : (at : ℕ) (s : State) → p ≡ standing at 2 s → xs ≡ [] → Rest file p xs
+
+-- how many turns a play has left at most: one for each byte, and the settings line and the end line
+unfoldable pub turnsLeft : List ℕ → Player → ℕ
+turnsLeft file p = cond (eqb (p .stage) 0) (length file + 2) (cond (eqb (p .stage) 1) (length file - p .at + 1) 0)
+
+-- o writes the first of it
+pub record On (file : List ℕ) (p : Player) (xs : List ℕ) (o : Out) : Type 0 where
+  pub left : List ℕ
+  pub sheet : xs ≡ o .sheet ++ left
+  pub rest : Rest file (o .player) left
+  pub fewer : turnsLeft file (o .player) ≤ turnsLeft file p - 1
+
+-- ---- one turn
 
 -- a line leaves a state in range
-form-in-range : (s : State) (f : Line.Line) → inRange s ≡ true → inRange (playForm s f .state) ≡ true
+pub form-in-range : (s : State) (f : Line.Line) → inRange s ≡ true → inRange (playForm s f .state) ≡ true
 unfolding playForm
 form-in-range s (Line.the-variants.Begin t o k) h = rw begin-state (begin-in-range s t o k h)
 form-in-range s (Line.the-variants.Steps t n) h = rw run-state (run-in-range s t n h)
 form-in-range s Line.the-variants.Slip h = h
-
-play-line : (s : State) (l : List ℕ) (ls : List (List ℕ))
-    → playLines s (l ∷ ls) ≡ playForm s (lineForm l) .sheet ++ playLines (playForm s (lineForm l) .state) ls
-unfolding playLines
-play-line s l ls = refl
 
 play-all : (l : List ℕ) (ls : List (List ℕ)) → playAll (l ∷ ls) ≡ playFirst (firstForm l) ls
 unfolding playAll
@@ -71,12 +103,6 @@ module _ (room : ℕ) (wide : 256 ≤ room) where
   first-is l = rw wide-enough
 
   module _ (file : List ℕ) where
-    -- at the end nothing more is written
-    ended : (n at : ℕ) (s : State) → written n room file (standing at 2 s) ≡ []
-    unfolding written turnOf
-    ended zero at s = refl
-    ended (suc n) at s = rw wide-enough (ended n at s)
-
     turn-end : (at : ℕ) (s : State) → length file ≤ at → inRange s ≡ true
         → turnOf room file (standing at 1 s) ≡ out (endForm s (keyListOf s)) at 2
     unfolding turnOf lineTurn
@@ -88,14 +114,6 @@ module _ (room : ℕ) (wide : 256 ≤ room) where
     unfolding turnOf lineTurn
     turn-next at s k h = rw (wide-enough, lt-leb (length file) at k, line-is s (front (drop at file)) h)
 
-    -- past the last byte the end line is written
-    past : (n at : ℕ) (s : State) → inRange s ≡ true → length file ≤ at
-        → written (suc n) room file (standing at 1 s) ≡ playLines s (lines (drop at file))
-    unfolding written playLines lines
-    past n at s h k =
-        rw (turn-end at s k h, drop-of-length-le file k, ended n at (endForm s (keyListOf s) .state))
-        (append-nil (endForm s (keyListOf s) .sheet))
-
     -- the lines from a byte on: the one that starts there, and those behind it
     cut : (at : ℕ) → at < length file
         → lines (drop at file) ≡ front (drop at file) ∷ lines (drop (at + until newline (drop at file) + 1) file)
@@ -105,38 +123,6 @@ module _ (room : ℕ) (wide : 256 ≤ room) where
         lines-cut (drop at file) (omega (arith, length-drop at file))
         ∙ ap (λ (m : List ℕ). front (drop at file) ∷ lines m) (drop-drop (suc u) at file ∙ ap (λ (m : ℕ). drop m file) e)
 
-    call : (n : ℕ) (p : Player) → written (suc n) room file p ≡ turnOf room file p .sheet ++ written n room file (turnOf room file p .player)
-    unfolding written
-    call n p = refl
-
-    -- one call more, one line more
-    one-line : (n at : ℕ) (s : State) → inRange s ≡ true → at < length file
-        → written n room file (standing (at + until newline (drop at file) + 1) 1 (playForm s (lineForm (front (drop at file))) .state))
-        ≡ playLines (playForm s (lineForm (front (drop at file))) .state) (lines (drop (at + until newline (drop at file) + 1) file))
-        → written (suc n) room file (standing at 1 s) ≡ playLines s (lines (drop at file))
-    one-line n at s h q e =
-        call n (standing at 1 s)
-        ∙ ap (λ (o : Out). o .sheet ++ written n room file (o .player)) (turn-next at s q h)
-        ∙ ap (λ (l : List ℕ). playForm s (lineForm (front (drop at file))) .sheet ++ l) e
-        ∙ sym (ap (playLines s) (cut at q) ∙ play-line s (front (drop at file)) _)
-
-    -- from a line on: the sheet lines of the lines that are left, then the end line
-    lines-from : (n at : ℕ) (s : State) → inRange s ≡ true → length file ≤ at + n
-        → written (suc n) room file (standing at 1 s) ≡ playLines s (lines (drop at file))
-    lines-from zero at s h k = past zero at s h (omega arith)
-    lines-from (suc n) at s h k =
-        go (decLe (length file) at)
-        (lines-from n (at + until newline (drop at file) + 1) (playForm s (lineForm (front (drop at file))) .state)
-        (form-in-range s (lineForm (front (drop at file))) h)
-        (omega arith))
-      where
-        go : Dec (length file ≤ at)
-            → written (suc n) room file (standing (at + until newline (drop at file) + 1) 1 (playForm s (lineForm (front (drop at file))) .state))
-            ≡ playLines (playForm s (lineForm (front (drop at file))) .state) (lines (drop (at + until newline (drop at file) + 1) file))
-            → written (suc (suc n)) room file (standing at 1 s) ≡ playLines s (lines (drop at file))
-        go (yes p) e = past (suc n) at s h p
-        go (no p) e = one-line (suc n) at s h (omega arith) e
-
     -- the first call on a file that is not too long
     turn-first : length file ≤ 60000 → (f : First.First) → firstForm (front file) ≡ f
         → turnOf room file opened
@@ -144,47 +130,163 @@ module _ (room : ℕ) (wide : 256 ≤ room) where
     unfolding turnOf firstTurn opened
     turn-first k f e = rw (wide-enough, le-ltb 60000 (length file) k, first-is (front file), e)
 
-    -- the settings line, then the lines behind it
-    first-then : (n : ℕ) → length file ≤ n → length file ≤ 60000 → (f : First.First) → firstForm (front file) ≡ f
-        → written (suc (suc n)) room file opened ≡ playFirst f (lines (drop (until newline file + 1) file))
-    unfolding firstPlayed playFirst
-    first-then n k short (First.the-variants.Settings c) e =
-        call (suc n) opened
-        ∙ ap (λ (o : Out). o .sheet ++ written (suc n) room file (o .player)) (turn-first short (First.the-variants.Settings c) e)
-        ∙ ap (λ (l : List ℕ). sheetLine 82 [] ++ l)
-        (lines-from n (until newline file + 1) (fresh c) (fresh-in-range c (first-in-range (front file) c e)) (omega arith))
-    first-then n k short First.the-variants.Slip e =
-        call (suc n) opened
-        ∙ ap (λ (o : Out). o .sheet ++ written (suc n) room file (o .player)) (turn-first short First.the-variants.Slip e)
-        ∙ ap (λ (l : List ℕ). refusal 2 ++ l) (ended (suc n) 0 (fresh zeroSettings))
-        ∙ append-nil (refusal 2)
+    -- on a file that is too long
+    turn-long : 60000 < length file
+        → turnOf room file opened ≡ record { number = 12; sheet = refusal 12; player = standing 0 2 (opened .state) }
+    unfolding turnOf firstTurn opened
+    turn-long k = rw (wide-enough, lt-ltb 60000 (length file) k)
 
-    -- a file that is too long
-    too-long : (n : ℕ) → 60000 < length file → written (suc n) room file opened ≡ refusal 12
-    unfolding written turnOf firstTurn opened
-    too-long n k =
-        rw (wide-enough, lt-ltb 60000 (length file) k, ended n 0 (fresh zeroSettings)) (append-nil (refusal 12))
-
-    -- all lines of the file, where it has one
-    whole : (n : ℕ) → length file ≤ n → length file ≤ 60000 → written (suc (suc n)) room file opened ≡ playAll (lines file)
-    whole n k short = first-then n k short (firstForm (front file)) refl ∙ go file refl
+    -- the lines of a file that is not too long: the first, and those behind it
+    first-cut : length file ≤ 60000 → sheetOf file ≡ playFirst (firstForm (front file)) (lines (drop (until newline file + 1) file))
+    unfolding sheetOf
+    first-cut short = rw (le-ltb 60000 (length file) short) (go file refl)
       where
-        go : (l : List ℕ) → file ≡ l → playFirst (firstForm (front file)) (lines (drop (until newline file + 1) file)) ≡ playAll (lines file)
-        go [] e = rw e empty
+        go : (l : List ℕ) → file ≡ l → playAll (lines file) ≡ playFirst (firstForm (front file)) (lines (drop (until newline file + 1) file))
+        go [] e = rw e (sym empty)
         go (b ∷ bs) e =
-            sym
-            (ap playAll
+            ap playAll
             (lines-cut file (rw e (omega arith)) ∙ ap (λ (m : ℕ). front file ∷ lines (drop m file)) (sym (add-one (until newline file))))
-            ∙ play-all (front file) (lines (drop (until newline file + 1) file)))
+            ∙ play-all (front file) (lines (drop (until newline file + 1) file))
 
--- The lines that the player writes into a room of at least 256 bytes, put together, are the sheet of the file: two calls more than it has bytes are
--- enough, and more calls write nothing.
-pub sheet-written : (room : ℕ) → 256 ≤ room → (file : List ℕ) (n : ℕ) → length file + 2 ≤ n → written n room file opened ≡ sheetOf file
-unfolding sheetOf
-sheet-written room wide file zero k = absurd (omega arith)
-sheet-written room wide file (suc zero) k = absurd (omega arith)
-sheet-written room wide file (suc (suc n)) k = go (decLe (length file) 60000)
-  where
-    go : Dec (length file ≤ 60000) → written (suc (suc n)) room file opened ≡ sheetOf file
-    go (yes p) = rw (le-ltb 60000 (length file) p) (whole room wide file n (omega arith) p)
-    go (no p) = rw (lt-ltb 60000 (length file) (omega arith)) (too-long room wide file (suc n) (omega arith))
+    -- the settings line
+    first-on : length file ≤ 60000 → (f : First.First) → firstForm (front file) ≡ f → On file opened (sheetOf file) (turnOf room file opened)
+    unfolding firstPlayed playFirst turnsLeft opened
+    first-on short (First.the-variants.Settings c) e =
+        rw (turn-first short (First.the-variants.Settings c) e)
+        (record {
+          left = playLines (fresh c) (lines (drop (until newline file + 1) file));
+          sheet = rw (first-cut short, e);
+          rest = among (until newline file + 1) (fresh c) refl (fresh-in-range c (first-in-range (front file) c e)) refl;
+          fewer = omega arith;
+        })
+    first-on short First.the-variants.Slip e =
+        rw (turn-first short First.the-variants.Slip e)
+        (record {
+          left = [];
+          sheet = rw (first-cut short, e, append-nil);
+          rest = ended 0 _ refl refl;
+          fewer = zero-le;
+        })
+
+    -- the first turn
+    before-on : Dec (length file ≤ 60000) → On file opened (sheetOf file) (turnOf room file opened)
+    unfolding turnsLeft opened sheetOf
+    before-on (yes k) = first-on k (firstForm (front file)) refl
+    before-on (no k) =
+        rw (turn-long (omega arith))
+        (record {
+          left = [];
+          sheet = rw (lt-ltb 60000 (length file) (omega arith), append-nil);
+          rest = ended 0 _ refl refl;
+          fewer = zero-le;
+        })
+
+    -- a turn among the lines
+    among-on : (at : ℕ) (s : State) → inRange s ≡ true → Dec (length file ≤ at)
+        → On file (standing at 1 s) (playLines s (lines (drop at file))) (turnOf room file (standing at 1 s))
+    unfolding turnsLeft playLines lines
+    among-on at s r (yes k) =
+        rw (turn-end at s k r)
+        (record {
+          left = [];
+          sheet = rw (drop-of-length-le file k, append-nil);
+          rest = ended at _ refl refl;
+          fewer = zero-le;
+        })
+    among-on at s r (no k) =
+        rw (turn-next at s (omega arith) r)
+        (record {
+          left = playLines (playForm s (lineForm (front (drop at file))) .state) (lines (drop (at + until newline (drop at file) + 1) file));
+          sheet = ap (playLines s) (cut at (omega arith));
+          rest = among (at + until newline (drop at file) + 1) _ refl (form-in-range s (lineForm (front (drop at file))) r) refl;
+          fewer = omega arith;
+        })
+
+    -- a turn at the end
+    ended-on : (at : ℕ) (s : State) → On file (standing at 2 s) [] (turnOf room file (standing at 2 s))
+    unfolding turnsLeft turnOf
+    ended-on at s = rw wide-enough (record { left = []; sheet = refl; rest = ended at s refl refl; fewer = zero-le })
+
+    -- a turn writes the first of what is left to write
+    turn-on : (p : Player) (xs : List ℕ) → Rest file p xs → On file p xs (turnOf room file p)
+    turn-on p xs (before e h) = rw (e, h) (before-on (decLe (length file) 60000))
+    turn-on p xs (among at s e r h) = rw (e, h) (among-on at s r (decLe (length file) at))
+    turn-on p xs (ended at s e h) = rw (e, h) (ended-on at s)
+
+-- ---- several turns
+
+-- what is known where another turn follows
+goes-on : (room : ℕ) (o : Out) → goesOn room o ≡ true → 256 ≤ room - length (o .sheet)
+goes-on room o e = ltb-false _ 256 (not-true _ (and-eq-true-iff _ _ .0 (and-eq-true-iff _ _ .0 e .0) .0))
+
+-- a turn behind one that is on
+behind-on : {file : List ℕ} {p : Player} {xs : List ℕ} {o q : Out} (a : On file p xs o) → On file (o .player) (a .left) q → On file p xs (behind o q)
+behind-on {file} {p} {xs} {o} {q} a b =
+    record {
+      left = b .left;
+      sheet = a .sheet ∙ ap (λ (l : List ℕ). o .sheet ++ l) (b .sheet) ∙ sym (append-assoc (o .sheet) (q .sheet) (b .left));
+      rest = b .rest;
+      fewer = omega (arith, a .fewer, b .fewer);
+    }
+
+module _ (room : ℕ) (file : List ℕ) where
+  -- one turn more
+  another : Out → Out
+  another o = behind o (turnOf (room - length (o .sheet)) file (o .player))
+
+  -- what one turn more keeps, several keep
+  turns-keep : (P : Out → Type 0) → ((o : Out) → goesOn room o ≡ true → P o → P (another o)) → (n : ℕ) (o : Out) → P o → P (turnsOf n room file o)
+  unfolding turnsOf another
+  turns-keep P step zero o h = h
+  turns-keep P step (suc n) o h = go (goesOn room o) refl (λ e. turns-keep P step n (another o) (step o e h))
+    where
+      go : (t : Bool) → goesOn room o ≡ t → (goesOn room o ≡ true → P (turnsOf n room file (another o))) → P (cond t (turnsOf n room file (another o)) o)
+      go true e k = k e
+      go false e k = h
+
+  pub several-fits : (p : Player) → length (severalOf room file p .sheet) ≤ room
+  unfolding severalOf another
+  several-fits p =
+      turns-keep (λ (o : Out). length (o .sheet) ≤ room)
+      (λ o e h. simp length-append (omega (arith, turn-fits (room - length (o .sheet)) file (o .player))))
+      (length file + 1) (turnOf room file p) (turn-fits room file p)
+
+  several-on : 256 ≤ room → (p : Player) (xs : List ℕ) → Rest file p xs → On file p xs (severalOf room file p)
+  unfolding severalOf another
+  several-on wide p xs r =
+      turns-keep (On file p xs)
+      (λ o e a. behind-on a (turn-on (room - length (o .sheet)) (goes-on room o e) file (o .player) (a .left) (a .rest)))
+      (length file + 1) (turnOf room file p) (turn-on room wide file p xs r)
+
+-- ---- all calls
+
+-- with no turn left nothing is left to write
+rest-done : {file : List ℕ} {p : Player} {xs : List ℕ} → Rest file p xs → turnsLeft file p ≤ 0 → xs ≡ []
+unfolding turnsLeft opened
+rest-done {file} {p} (before e h) k = absurd (omega (arith, rw e at k))
+rest-done {file} {p} (among at s e r h) k = absurd (omega (arith, rw e at k))
+rest-done (ended at s e h) k = h
+
+module _ (does : ℕ → List ℕ → Player → Out) (file : List ℕ)
+    (fits : (room : ℕ) (p : Player) → length (does room file p .sheet) ≤ room)
+    (on : (room : ℕ) → 256 ≤ room → (p : Player) (xs : List ℕ) → Rest file p xs → On file p xs (does room file p)) where
+  calls-write : {p : Player} {xs : List ℕ} {cs : List Call} → Calls does file p cs → Rest file p xs → turnsLeft file p ≤ length cs → taken cs ≡ xs
+  unfolding taken
+  calls-write none r h = sym (rest-done r h)
+  calls-write {p} {xs} (call c {cs} wide t more) r h =
+      let a = on (length (c .before)) wide p xs r in
+      let e = ap (λ (u : Turn). u .player) (t .reply) in
+      let k : taken cs ≡ a .left = calls-write more (rw (sym e) at (a .rest)) (omega (arith, rw (sym e) at (a .fewer))) in
+      rw (turned-read t (fits (length (c .before)) p), k) (sym (a .sheet))
+
+  all-calls : (cs : List Call) → Calls does file opened cs → length file + 2 ≤ length cs → taken cs ≡ sheetOf file
+  unfolding turnsLeft opened
+  all-calls cs c h = calls-write c (before refl refl) (omega arith)
+
+-- What calls of `next` leave in rooms of at least 256 bytes, put together, is the sheet of the file: two calls more than it has bytes are enough.
+pub sheet-written : (file : List ℕ) (cs : List Call) → Calls turnOf file opened cs → length file + 2 ≤ length cs → taken cs ≡ sheetOf file
+sheet-written file = all-calls turnOf file (λ room. turn-fits room file) (λ room wide. turn-on room wide file)
+
+-- And so is what calls of `several` leave.
+pub several-written : (file : List ℕ) (cs : List Call) → Calls severalOf file opened cs → length file + 2 ≤ length cs → taken cs ≡ sheetOf file
+several-written file = all-calls severalOf file (λ room. several-fits room file) (λ room. several-on room file)

@@ -1,8 +1,10 @@
 -- One call of the player: what it writes, and where the play stands then.
-use mathlib.Core.Bool.{cond}
+use mathlib.Core.Bool.{Bool, true, false, cond}
 use mathlib.Core.List.{List, []}
-use mathlib.Core.Path.{_≡_, sym, _∙_}
-use Prim.Native.Nat.{ℕ, _+_}
+use mathlib.Core.Path.{_≡_, refl, sym, _∙_}
+use Prim.Native.Nat.{ℕ, _+_, _≤_, zero-le}
+use native.Mathlib.Omega.{arith}
+use borrow.Author.Tests.{ltb-false}
 use lib.Dec.{ltb, leb, eqb}
 use lib.ListN.{length, take, drop}
 use lib.Seq.{sets}
@@ -10,8 +12,10 @@ use Rattle.rules.specs.State.{fresh}
 use Rattle.rules.specs.Step.{zeroSettings}
 use Rattle.rules.specs.declared.state.State.{State}
 use Rattle.text.specs.Text.{newline, until}
+use Rattle.text.specs.Writing.{front-read}
 use Rattle.sheet.specs.Sheet.{Played, narrow, refusal, firstOf, lineOf, endOf}
 use Rattle.sheet.specs.Called.{Called}
+use Rattle.sheet.specs.Lengths.{refusal-short, line-fits, end-fits, first-fits}
 use Rattle.sheet.specs.declared.calls.Answer.{Answer}
 use Rattle.player.specs.declared.Player.{Player}
 use Rattle.player.specs.declared.Turn.{Turn}
@@ -76,6 +80,33 @@ pub record Turned (o : Out) (l : List ℕ) (r : Turn) (l′ : List ℕ) : Type 0
 -- two turns that the same call allows are equal, and so is each byte of the room
 pub turned-same : {o : Out} {l l₁ l₂ : List ℕ} {r₁ r₂ : Turn} → Turned o l r₁ l₁ → Turned o l r₂ l₂ → (r₁ ≡ r₂) × (l₁ ≡ l₂)
 turned-same t u = (t .reply ∙ sym (u .reply), t .bytes ∙ sym (u .bytes))
+
+-- the line stands at the front of the room, as long as was answered
+pub turned-read : {o : Out} {l l′ : List ℕ} {r : Turn} → Turned o l r l′ → length (o .sheet) ≤ length l → take (r .length) l′ ≡ o .sheet
+turned-read {o} {l} t h = rw (t .reply, t .bytes) (front-read l (o .sheet) h)
+
+-- one of two that fit
+either-fits : (room : ℕ) (t : Bool) (o q : Out) → length (o .sheet) ≤ room → length (q .sheet) ≤ room → length (cond t o q .sheet) ≤ room
+either-fits room true o q h k = h
+either-fits room false o q h k = k
+
+-- every line fits into its room
+pub turn-fits : (room : ℕ) (file : List ℕ) (p : Player) → length (turnOf room file p .sheet) ≤ room
+unfolding turnOf firstTurn lineTurn
+turn-fits room file p = go (narrow room) refl
+  where
+    first : 256 ≤ room → length (firstTurn room file p .sheet) ≤ room
+    first h =
+        either-fits room (ltb 60000 (length file)) _ _ (omega (arith, refusal-short 12))
+        (either-fits room (eqb (firstPlay room file .number) 0) _ _ (first-fits room (front file)) (first-fits room (front file)))
+
+    line : length (lineTurn room file p .sheet) ≤ room
+    line = either-fits room (leb (length file) (p .at)) _ _ (end-fits room (p .state)) (line-fits room (p .state) (front (drop (p .at) file)))
+
+    go : (t : Bool) → narrow room ≡ t
+        → length (cond t (silently 9 p) (cond (eqb (p .stage) 0) (firstTurn room file p) (cond (eqb (p .stage) 1) (lineTurn room file p) (silently 0 p))) .sheet) ≤ room
+    go true h = zero-le
+    go false h = either-fits room (eqb (p .stage) 0) _ _ (first (ltb-false room 256 h)) (either-fits room (eqb (p .stage) 1) _ _ line zero-le)
 
 -- what a line call did to the room is what the call of the player did
 pub turned-called : {q : Played} {l l′ : List ℕ} {a : Answer} → Called q l a l′ → (at stage : ℕ)

@@ -4,10 +4,11 @@ use mathlib.Core.Path.{_≡_, refl, sym, _∙_}
 use Prim.Native.Nat.{ℕ, _≤_}
 use native.Mathlib.Omega.{arith}
 use borrow.Author.Tests.{le-ltb}
-use lib.ListN.{length}
+use lib.ListN.{length, take}
 use lib.Seq.{sets}
 use Rattle.rules.specs.declared.state.State.{State}
 use Rattle.text.specs.Text.{Wrote, fitted}
+use Rattle.text.specs.Writing.{front-read}
 use Rattle.sheet.specs.Sheet.{Played, silent}
 use Rattle.sheet.specs.declared.calls.Answer.{Answer}
 
@@ -23,6 +24,10 @@ pub record Called (p : Played) (l : List ℕ) (r : Answer) (l′ : List ℕ) : T
 -- two answers that the same line call allows are equal, and so is each byte of the room
 pub called-same : {p : Played} {l l₁ l₂ : List ℕ} {a₁ a₂ : Answer} → Called p l a₁ l₁ → Called p l a₂ l₂ → (a₁ ≡ a₂) × (l₁ ≡ l₂)
 called-same c d = (c .reply ∙ sym (d .reply), c .bytes ∙ sym (d .bytes))
+
+-- the sheet line stands at the front of the room, as long as was answered
+pub called-read : {p : Played} {l l′ : List ℕ} {r : Answer} → Called p l r l′ → length (p .sheet) ≤ length l → take (r .length) l′ ≡ p .sheet
+called-read {p} {l} c h = rw (c .reply, c .bytes) (front-read l (p .sheet) h)
 
 -- a line that fits was written
 pub called-line : {l l′ : List ℕ} {r : ℕ} (n : ℕ) (s : State) (most : ℕ) (line : List ℕ) → Wrote l 0 (fitted most (length l) line) r l′

@@ -1,16 +1,17 @@
 -- Laws of writing: how writes join, and the lengths of what is written.
 use mathlib.Core.Bool.{Bool, true, false, cond}
-use mathlib.Core.List.{List, [], _∷_, _++_}
-use mathlib.Core.Path.{_≡_, refl, sym, _∙_}
-use Prim.Native.Nat.{ℕ, zero, suc, _+_, _-_, _/_, _%_, _≤_, _<_}
+use mathlib.Core.List.{List, [], _∷_, _++_, append-assoc}
+use mathlib.Core.Path.{_≡_, refl, sym, ap, _∙_}
+use Prim.Native.Nat.{ℕ, zero, suc, _+_, _-_, _*_, _/_, _%_, _≤_, _<_, zero-le}
 use native.Mathlib.Nat.{add-zero}
 use native.Mathlib.Numerals.{add-one}
 use native.Mathlib.Omega.{arith}
 use borrow.Author.Tests.{lt-ltb, le-ltb}
-use lib.ListN.{length, getD, drop, set, length-append}
-use lib.Seq.{sets, drop-cons, set-set, set-comm}
-use Rattle.keys.specs.Keys.{has, rising}
-use Rattle.text.specs.Text.{tab, minus, decimalOf, decimal, tabbed, commas, keyText, keysText, Wrote}
+use lib.Dec.{ltb}
+use lib.ListN.{length, getD, take, drop, set, length-append, length-drop}
+use lib.Seq.{sets, sets-eq, drop-cons, drop-drop, take-append-seam, set-set, set-comm}
+use Rattle.keys.specs.Keys.{has, rising, listOf}
+use Rattle.text.specs.Text.{tab, minus, decimalOf, decimal, tabbed, sheetLine, commas, keyText, keysText, keysLine, Wrote}
 
 -- ---- joined writes
 
@@ -97,3 +98,60 @@ pub keys-none : {l l′ : List ℕ} {at r : ℕ} (ks : List ℕ) → Wrote l at 
 unfolding commas keysText
 keys-none [] w h = record { next = refl; bytes = rw (w .bytes, add-one) }
 keys-none (n ∷ ns) w h = absurd (omega (arith, w .next))
+
+-- ---- lengths
+
+pub decimal-length : (d n : ℕ) → length (decimalOf d n) ≤ d
+unfolding decimalOf
+decimal-length zero n = zero-le
+decimal-length (suc d) n = go (ltb n 10) (decimal-length d (n / 10))
+  where
+    go : (t : Bool) → length (decimalOf d (n / 10)) ≤ d
+        → length (cond t ((48 + n) ∷ []) (decimalOf d (n / 10) ++ ((48 + n % 10) ∷ []))) ≤ suc d
+    go true h = omega arith
+    go false h = simp length-append (omega arith)
+
+tabbed-length : (ns : List ℕ) → length (tabbed ns) ≤ 8 * length ns
+unfolding tabbed decimal
+tabbed-length [] = zero-le
+tabbed-length (n ∷ ns) = simp length-append (omega (arith, decimal-length 7 n, tabbed-length ns))
+
+-- a sheet line of numbers
+pub line-length : (letter : ℕ) (ns : List ℕ) → length (sheetLine letter ns) ≤ 2 + 8 * length ns
+unfolding sheetLine
+line-length letter ns = simp length-append (omega (arith, tabbed-length ns))
+
+-- three bytes a key
+commas-length : (m k n : ℕ) → k + n ≤ 64 → length (commas (rising m k n)) ≤ 3 * n
+unfolding rising commas
+commas-length m k zero h = zero-le
+commas-length m k (suc n) h = go (has m k) (commas-length m (suc k) n (omega arith))
+  where
+    go : (t : Bool) → length (commas (rising m (suc k) n)) ≤ 3 * n
+        → length (commas (cond t (k ∷ rising m (suc k) n) (rising m (suc k) n))) ≤ 3 * suc n
+    go true e = simp length-append (omega (arith, ap length (decimal-key k (omega arith)), decimal-length 2 k))
+    go false e = omega arith
+
+-- the first key has no comma
+keys-length : (ks : List ℕ) (most : ℕ) → length (commas ks) ≤ most → 2 ≤ most → length (keysText ks) < most
+unfolding keysText commas
+keys-length [] most h k = omega arith
+keys-length (n ∷ ns) most h k = omega arith
+
+-- a sheet line that ends in the keys of a set
+pub keys-line-length : (letter : ℕ) (ns : List ℕ) (m : ℕ) → length (keysLine letter ns (listOf m)) ≤ 194 + 8 * length ns
+unfolding keysLine listOf
+keys-line-length letter ns m =
+    simp length-append (omega (arith, tabbed-length ns, keys-length (rising m 0 64) 192 (commas-length m 0 64 (omega arith)) (omega arith)))
+
+-- ---- reading back
+
+-- what fits can be read back at the front
+pub front-read : (l xs : List ℕ) → length xs ≤ length l → take (length xs) (sets l 0 xs) ≡ xs
+front-read l xs h = rw (sets-eq xs l 0 (omega arith)) (take-append-seam xs _)
+
+-- a write at the front of the bytes from a place on is a write at that place
+pub sets-behind : (l : List ℕ) (i : ℕ) (xs : List ℕ) → i + length xs ≤ length l → take i l ++ sets (drop i l) 0 xs ≡ sets l i xs
+sets-behind l i xs h =
+    let z : 0 + length xs ≡ length xs = omega arith in
+    rw (sets-eq xs l i h, sets-eq xs (drop i l) 0 (simp length-drop (omega arith)), z, drop-drop, append-assoc)
