@@ -1,8 +1,53 @@
-// Plays the schedule on standard input and writes its key sheet to standard output.
+// Plays the schedule on standard input and writes its key sheet to standard output. What fails is said on standard error.
+// The whole input is read before anything is written, but for what lies past the buffer: a schedule of more than
+// 60,000 bytes is too long whatever follows, so the rest is left unread.
 use libc::STDIN_FILENO;
+use libc::STDOUT_FILENO;
+
+// A program has no exit status. One that is started with this argument writes a word to this descriptor once the
+// whole sheet is written, so that its caller knows.
+const ASKED: [u8; 8] = [b'-', b'-', b'w', b'h', b'o', b'l', b'e', 0];
+
+const WORD_FILENO: i32 = 3;
+
+// Whether the first argument is `--whole`.
+fn is_asked() -> bool {
+    let mut word = [0u8; 8];
+    os::arg(1, &mut word);
+    let mut i: usize = 0;
+    while i < 8 {
+        if word[i] != ASKED[i] {
+            return false;
+        }
+        i += 1;
+    }
+    true
+}
+
+// Reads the schedule and writes its sheet; whether the whole sheet was written, and taken by what it was written to.
+fn is_played() -> bool {
+    let mut buffer = io::large_buffer();
+    let moved = console::read_all(STDIN_FILENO, &mut buffer);
+    if moved.failed {
+        console::tell(b"keysheet: reading");
+        return false;
+    }
+    let n = moved.bytes;
+    if stream::play(&buffer[..n]) {
+        if libc::close(STDOUT_FILENO) == 0 {
+            return true;
+        }
+    }
+    console::tell(b"keysheet: writing");
+    false
+}
 
 fn main() {
-    let mut buffer = io::large_buffer();
-    let n = io::read_full(STDIN_FILENO, &mut buffer);
-    stream::play(&buffer[..n]);
+    if is_played() {
+        if is_asked() {
+            if console::write_all(WORD_FILENO, b"whole\n").failed {
+                console::tell(b"keysheet: writing the word");
+            }
+        }
+    }
 }

@@ -2,11 +2,14 @@
 use libc::STDOUT_FILENO;
 ghost use Prim.Native.Nat.{_≤_, _<_};
 
-// How many calls may still be made: none at the end of the play.
-fn fewer(stage: u8, left: u32) -> u32
+// How many calls may still be made: none at the end of the play, or where a write failed.
+fn fewer(stage: u8, whole: bool, left: u32) -> u32
     ensures { λ r. ⌜ (0 < left → r < left) ⌝ }
 {
     if stage == 2 {
+        return 0;
+    }
+    if !whole {
         return 0;
     }
     if left == 0 {
@@ -16,9 +19,11 @@ fn fewer(stage: u8, left: u32) -> u32
 }
 
 // The file is played one sheet line a call. Lines are gathered, and written when the next might not fit.
-pub fn play(file: &[u8]) {
+// Answers whether the whole sheet was written; after a write that fails nothing more is.
+pub fn play(file: &[u8]) -> bool {
     let mut gathered = [0u8; 4096];
     let mut used: usize = 0;
+    let mut whole = true;
     let mut room = [0u8; 256];
     let mut p = player::open();
     let mut left: u32 = 60003;
@@ -27,10 +32,17 @@ pub fn play(file: &[u8]) {
         let n = t.length;
         p = t.player;
         let stage = p.stage;
-        used = gather(&mut gathered, used, &room, n);
-        left = fewer(stage, left);
+        if 3840 <= used {
+            whole = flush(&gathered, used);
+            used = 0;
+        }
+        used = append(&mut gathered, used, &room, n);
+        left = fewer(stage, whole, left);
     }
-    flush(&gathered, used);
+    if !whole {
+        return false;
+    }
+    flush(&gathered, used)
 }
 
 // The smaller of two counts.
@@ -64,18 +76,11 @@ fn append(gathered: &mut [u8], used: usize, line: &[u8], n: usize) -> usize {
     at
 }
 
-// The same; what is gathered is written first where a whole line might not fit.
-fn gather(gathered: &mut [u8], used: usize, line: &[u8], n: usize) -> usize {
-    if used < 3840 {
-        return append(&mut *gathered, used, line, n);
+// Writes the first `used` bytes; whether all were written.
+fn flush(gathered: &[u8], used: usize) -> bool {
+    if gathered.len() < used {
+        return false;
     }
-    flush(&*gathered, used);
-    append(&mut *gathered, 0, line, n)
-}
-
-// Writes the first `used` bytes.
-fn flush(gathered: &[u8], used: usize) {
-    if used <= gathered.len() {
-        io::write_all(STDOUT_FILENO, &gathered[..used]);
-    }
+    let moved = console::write_all(STDOUT_FILENO, &gathered[..used]);
+    !moved.failed
 }
