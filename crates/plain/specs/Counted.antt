@@ -4,10 +4,11 @@ use mathlib.Core.Path.{_≡_, refl, sym, ap, _∙_}
 use Prim.Native.Nat.{ℕ, zero, suc, _+_, _≤_, _<_}
 use native.Mathlib.Omega.{arith}
 use lib.ListN.{getD}
-use borrow.Author.Tests.{not-true}
+use borrow.Author.Tests.{lt-ltb, not-true}
 use Rattle.keys.specs.Keys.{has}
 use Rattle.rules.specs.State.{placeAt, threadAt}
 use Rattle.rules.specs.Places.{isRoute, isBase, keysOf}
+use Rattle.rules.specs.Needs.{base}
 use Rattle.rules.specs.List.{reached}
 use Rattle.rules.specs.declared.state.Place.{Place}
 use Rattle.rules.specs.declared.state.State.{State}
@@ -66,11 +67,16 @@ module _ {s : State} {p : ℕ} (x : Plain s p) where
         key = ap (λ (q : Place). has (keysOf q) j) (sym (place-at s b m)) ∙ h;
       }
 
-  -- the base register of a late thread, as the tree has it
+  -- the base register of a late thread names a base, whose keys are those that the tree has
   carried : (v j : ℕ) → v ≤ 7 → late (threadAt s v .phase) ≡ true
-      → has (keysOf (placeAt s (threadAt s v .base))) j ≡ has (keysAt s (threadAt s v .base)) j
+      → (base (threadAt s v .base) (placeAt s (threadAt s v .base)) ≡ true)
+      × (has (keysOf (placeAt s (threadAt s v .base))) j ≡ has (keysAt s (threadAt s v .base)) j)
   carried v j l e =
-      ap (λ (q : Place). has (keysOf q) j) (place-at s (threadAt s v .base) (linking-of (x .inv .nodes) v l e .base .small))
+      let b = threadAt s v .base in
+      let k = linking-of (x .inv .nodes) v l e .base in (
+        rw (lt-ltb b summit (k .small), reads-route s (x .inv .nodes .tree) (x .inv .nodes .own) b (k .small) ∙ k .base),
+        ap (λ (q : Place). has (keysOf q) j) (place-at s b (k .small)),
+      )
 
   module _ (j : ℕ) where
     kept : (b : ℕ) → b < 128 → keeps s j b ≡ true → InTree b j
@@ -99,9 +105,11 @@ module _ {s : State} {p : ℕ} (x : Plain s p) where
 
     taken : (v : ℕ) → v < 8 → carries s j v ≡ true → Late v
     taken v l e =
-        let q = both (late (threadAt s v .phase)) (has (keysOf (placeAt s (threadAt s v .base))) j) e in
+        let b = threadAt s v .base in
+        let q = both (late (threadAt s v .phase)) (base b (placeAt s b) && has (keysOf (placeAt s b)) j) e in
+        let r = both (base b (placeAt s b)) (has (keysOf (placeAt s b)) j) (q .1) in
         let m : v ≤ 7 = omega arith in
-        record { thread = m; phase = q .0; key = sym (carried v j m (q .0)) ∙ q .1 }
+        record { thread = m; phase = q .0; key = sym (carried v j m (q .0) .1) ∙ r .1 }
 
     same-base : {a b : ℕ} → InTree a j → InTree b j → a ≡ b
     same-base {a} {b} u v = one-base (x .inv .nodes) j a b (u .inside) (u .base) (u .key) (v .inside) (v .base) (v .key)
@@ -128,9 +136,10 @@ module _ {s : State} {p : ℕ} (x : Plain s p) where
             )
         by (inRetired v l f h) =
             let k : Late v = record { thread = l; phase = f; key = h } in
+            let q = carried v j l f in
             omega (
               arith,
-              many-one (carries s j) 8 v (omega arith) (rw (f, carried v j l f ∙ h)) (λ u m e. same-late (taken u m e) k),
+              many-one (carries s j) 8 v (omega arith) (rw (f, q .0, q .1 ∙ h)) (λ u m e. same-late (taken u m e) k),
               many-none (keeps s j) 128 (λ b m e. not-both (kept b m e) k),
             )
 

@@ -7,6 +7,7 @@ use lib.ListN.{getD}
 use Rattle.keys.specs.Keys.{has}
 use Rattle.rules.specs.State.{placeAt, threadAt}
 use Rattle.rules.specs.Places.{isRoute, isBase, keysOf, childOn}
+use Rattle.rules.specs.Needs.{base}
 use Rattle.rules.specs.List.{reached}
 use Rattle.rules.specs.declared.state.State.{State}
 use Rattle.runs.specs.Passes.{one}
@@ -33,9 +34,11 @@ howMany f (suc n) = one (f n) + howMany f n
 abbrev pub keeps : State → ℕ → ℕ → Bool
 keeps s j b = getD (reached s .seen) b false && (isBase (placeAt s b) && has (keysOf (placeAt s b)) j)
 
--- thread v is in phases 20 to 23, and its base register has the key j
+-- thread v is in phases 20 to 23, its base register names a base, and that has the key j
 abbrev pub carries : State → ℕ → ℕ → Bool
-carries s j v = late (threadAt s v .phase) && has (keysOf (placeAt s (threadAt s v .base))) j
+carries s j v =
+    let b = threadAt s v .base in
+    late (threadAt s v .phase) && (base b (placeAt s b) && has (keysOf (placeAt s b)) j)
 
 -- the number of such bases
 unfoldable pub holders : State → ℕ → ℕ

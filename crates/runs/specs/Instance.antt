@@ -30,9 +30,9 @@ exampleSettings = record { succ = 1; fail = 3; low = 1; max = 2 }
 unfoldable pub plays : ℕ → ℕ → ℕ → ℕ → List Move
 plays t o k n = begins t o k ∷ times n (steps t)
 
--- the begins and steps of example D
-unfoldable pub exampleD : List Move
-exampleD =
+-- the begins and steps of example D, but that the last lookup takes n steps
+unfoldable pub joins : ℕ → List Move
+joins n =
     plays 0 0 5 4
     ++ plays 0 0 9 4
     ++ plays 0 0 2 4
@@ -41,7 +41,11 @@ exampleD =
     ++ times 2 (steps 0)
     ++ times 6 (steps 1)
     ++ plays 0 2 2 5
-    ++ plays 0 2 2 12
+    ++ plays 0 2 2 n
+
+-- those of example D
+abbrev pub exampleD : List Move
+exampleD = joins 12
 
 abbrev pub number : Entry → ℕ
 number e = e .number
@@ -60,7 +64,7 @@ pub record Seen (s : State) (log : List Entry) : Type 0 where
   pub linked : keyListOf (afterMoves s (times 4 (steps 0))) ≡ Keys 676
 
 pub example-D : Seen (afterMoves (fresh exampleSettings) exampleD) (logOf (fresh exampleSettings) exampleD)
-unfolding one with without union below from rising listOf size splitKey fresh placeAt threadAt hangs searches seeks row1 row2 row3 row4 commits decides row5 noSplit split row6 row7 row8 row9 row10 row11 noJoin join row12 row13 row14 row15 row16 row17 row18 row19 row20 row21 row22 row23 row24 row25 row0 rows planOf needs stuck settingsInRange bodyInRange placeInRange registerInRange registersInRange threadInRange placesInRange threadsInRange countsInRange inRange begun beginOf viewBefore nextOf viewOf put apply after replyOf stepOf afterMove takesRoute passedBy passes passed unmet again meets lists gather reached howMany holders afterMoves logOf playLog numbers only times plays exampleD keyListOf eventsOf
+unfolding one with without union below from rising listOf size splitKey fresh placeAt threadAt hangs searches seeks row1 row2 row3 row4 commits decides row5 noSplit split row6 row7 row8 row9 row10 row11 noJoin join row12 row13 row14 row15 row16 row17 row18 row19 row20 row21 row22 row23 row24 row25 row0 rows planOf needs stuck settingsInRange bodyInRange placeInRange registerInRange registersInRange threadInRange placesInRange threadsInRange countsInRange inRange begun beginOf viewBefore nextOf viewOf put apply after replyOf stepOf afterMove takesRoute passedBy passes passed unmet again meets lists gather reached howMany holders afterMoves logOf playLog numbers only times plays joins keyListOf eventsOf
 example-D = record { phase = refl; set = refl; list = refl; count = refl; numbers = refl; stands = refl; routes = refl; linked = refl }
 
 -- `R 1 2 -1 0`
@@ -71,9 +75,9 @@ crossSettings = record { succ = 1; fail = 2; low = 1; max = 0 }
 unfoldable pub contended : ℕ → ℕ → List Move
 contended k d = plays 0 2 k (2 + d) ++ plays 1 2 k (2 + d) ++ times 2 (steps 0) ++ times 6 (steps 1)
 
--- two joins that cross: thread 0 stands in phase 17, and thread 1 splices out the route that is its G; then thread 0 takes two steps
-unfoldable pub crossing : List Move
-crossing =
+-- the keys 1 to 6, parted by three splits: the root has the key 4, its left child 2, and the right child of that 3
+unfoldable pub grown : List Move
+grown =
     plays 0 0 1 4
     ++ plays 0 0 2 4
     ++ plays 0 0 3 4
@@ -83,6 +87,11 @@ crossing =
     ++ contended 1 0
     ++ contended 1 1
     ++ contended 2 2
+
+-- two joins that cross: thread 0 stands in phase 17, and thread 1 splices out the route that is its G; then thread 0 takes two steps
+unfoldable pub crossing : List Move
+crossing =
+    grown
     ++ plays 0 2 1 6
     ++ plays 0 2 1 13
     ++ plays 1 2 4 5
@@ -96,5 +105,5 @@ pub record Crossed (s : State) : Type 0 where
   pub list : keyListOf (afterMoves s (times 8 (steps 0))) ≡ Keys 126
 
 pub crossed : Crossed (afterMoves (fresh crossSettings) crossing)
-unfolding one with without union below from rising listOf size splitKey fresh placeAt threadAt hangs searches seeks row1 row2 row3 row4 commits decides row5 noSplit split row6 row7 row8 row9 row10 row11 noJoin join row12 row13 row14 row15 row16 row17 row18 row19 row20 row21 row22 row23 row24 row25 row0 rows planOf needs stuck settingsInRange bodyInRange placeInRange registerInRange registersInRange threadInRange placesInRange threadsInRange countsInRange inRange begun beginOf viewBefore nextOf viewOf put apply after replyOf stepOf afterMove takesRoute passedBy passes passed unmet again meets lists gather reached howMany holders afterMoves logOf playLog times plays contended crossing keyListOf
+unfolding one with without union below from rising listOf size splitKey fresh placeAt threadAt hangs searches seeks row1 row2 row3 row4 commits decides row5 noSplit split row6 row7 row8 row9 row10 row11 noJoin join row12 row13 row14 row15 row16 row17 row18 row19 row20 row21 row22 row23 row24 row25 row0 rows planOf needs stuck settingsInRange bodyInRange placeInRange registerInRange registersInRange threadInRange placesInRange threadsInRange countsInRange inRange begun beginOf viewBefore nextOf viewOf put apply after replyOf stepOf afterMove takesRoute passedBy passes passed unmet again meets lists gather reached howMany holders afterMoves logOf playLog times plays contended grown crossing keyListOf
 crossed = record { phase = refl; count = refl; list = refl }

@@ -7,3 +7,6 @@ pub mod Events
 pub mod Holders
 pub mod Demand
 pub mod Instance
+pub mod Counts
+pub mod Unfit
+pub mod Walks
