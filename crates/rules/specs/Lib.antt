@@ -8,4 +8,5 @@ pub mod Step
 pub mod List
 pub mod Follow
 pub mod Answers
-pub mod Examples
+pub mod Computes
+pub mod Trials

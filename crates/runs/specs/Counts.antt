@@ -3,15 +3,10 @@ use mathlib.Core.Bool.{true, false}
 use mathlib.Core.Path.{_≡_, refl}
 use Prim.Native.Nat.{ℕ}
 use lib.ListN.{set}
-use Rattle.keys.specs.Keys.{with, without, union, below, from, rising, listOf, size, splitKey}
-use Rattle.rules.specs.State.{fresh, placeAt, threadAt}
+use Rattle.rules.specs.State.{fresh, threadAt}
 use Rattle.rules.specs.Registers.{atPhase}
-use Rattle.rules.specs.Rows.{hangs, searches, seeks, row1, row2, row3, row4, commits, decides, row5, noSplit, split, row6, row7, row8, row9, row10, row11, noJoin, join, row12, row13, row14, row15, row16, row17, row18, row19, row20, row21, row22, row23, row24, row25, row0, rows, planOf}
-use Rattle.rules.specs.Needs.{needs, stuck}
-use Rattle.rules.specs.Range.{settingsInRange, bodyInRange, placeInRange, registerInRange, registersInRange, threadInRange, placesInRange, threadsInRange, countsInRange, inRange}
-use Rattle.rules.specs.Step.{begun, beginOf, viewBefore, nextOf, viewOf, put, apply, after, replyOf, stepOf}
-use Rattle.rules.specs.List.{unmet, again, meets, lists, gather, reached}
 use Rattle.rules.specs.declared.state.State.{State}
+use Rattle.rules.specs.Computes.{computes}
 use Rattle.runs.specs.Calls.{afterMove, afterMoves, times}
 use Rattle.runs.specs.Passes.{one}
 use Rattle.runs.specs.Holders.{Reaches, at, below as child, carries, howMany, holders}
@@ -52,7 +47,7 @@ pub record Played : Type 0 where
   pub right : Reaches (joining 10) (joining 10 .root) 2
 
 pub played : Played
-unfolding one with without union below from rising listOf size splitKey fresh placeAt threadAt hangs searches seeks row1 row2 row3 row4 commits decides row5 noSplit split row6 row7 row8 row9 row10 row11 noJoin join row12 row13 row14 row15 row16 row17 row18 row19 row20 row21 row22 row23 row24 row25 row0 rows planOf needs stuck settingsInRange bodyInRange placeInRange registerInRange registersInRange threadInRange placesInRange threadsInRange countsInRange inRange begun beginOf viewBefore nextOf viewOf put apply after replyOf stepOf afterMove afterMoves unmet again meets lists gather reached howMany holders times plays joins joining stray
+unfolding computes one afterMove afterMoves howMany holders times plays joins joining stray
 played =
     record {
       splice = record { phase = refl; count = refl };

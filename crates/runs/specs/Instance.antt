@@ -8,19 +8,15 @@ use Rattle.keys.specs.Keys.{has}
 use Rattle.rules.specs.declared.state.Settings.{Settings}
 use Rattle.rules.specs.declared.state.State.{State}
 use Rattle.rules.specs.declared.answer.ListReply.the-variants.{Keys}
-use Rattle.keys.specs.Keys.{with, without, union, below, from, rising, listOf, size, splitKey}
-use Rattle.rules.specs.State.{fresh, placeAt, threadAt}
-use Rattle.rules.specs.Rows.{hangs, searches, seeks, row1, row2, row3, row4, commits, decides, row5, noSplit, split, row6, row7, row8, row9, row10, row11, noJoin, join, row12, row13, row14, row15, row16, row17, row18, row19, row20, row21, row22, row23, row24, row25, row0, rows, planOf}
-use Rattle.rules.specs.Needs.{needs, stuck}
-use Rattle.rules.specs.Range.{settingsInRange, bodyInRange, placeInRange, registerInRange, registersInRange, threadInRange, placesInRange, threadsInRange, countsInRange, inRange}
-use Rattle.rules.specs.Step.{begun, beginOf, viewBefore, nextOf, viewOf, put, apply, after, replyOf, stepOf}
+use Rattle.rules.specs.State.{fresh, threadAt}
 use Rattle.runs.specs.Calls.{Move, begins, steps, afterMove, afterMoves, times}
 use Rattle.runs.specs.Passes.{one, takesRoute, passedBy, passes, passed}
 use Rattle.runs.specs.PlainSet.{empty, numbers, only, keysIn}
 use Rattle.runs.specs.Log.{Entry, logOf, playLog}
 use Rattle.runs.specs.Events.{done, nothingDue, dueAfter, eventsOf}
 use Rattle.runs.specs.Holders.{howMany, holders}
-use Rattle.rules.specs.List.{unmet, again, meets, lists, gather, reached, keyListOf}
+use Rattle.rules.specs.Computes.{computes}
+use Rattle.rules.specs.List.{reached, keyListOf}
 
 -- `R 1 3 -1 2`
 abbrev pub exampleSettings : Settings
@@ -64,7 +60,7 @@ pub record Seen (s : State) (log : List Entry) : Type 0 where
   pub linked : keyListOf (afterMoves s (times 4 (steps 0))) ≡ Keys 676
 
 pub example-D : Seen (afterMoves (fresh exampleSettings) exampleD) (logOf (fresh exampleSettings) exampleD)
-unfolding one with without union below from rising listOf size splitKey fresh placeAt threadAt hangs searches seeks row1 row2 row3 row4 commits decides row5 noSplit split row6 row7 row8 row9 row10 row11 noJoin join row12 row13 row14 row15 row16 row17 row18 row19 row20 row21 row22 row23 row24 row25 row0 rows planOf needs stuck settingsInRange bodyInRange placeInRange registerInRange registersInRange threadInRange placesInRange threadsInRange countsInRange inRange begun beginOf viewBefore nextOf viewOf put apply after replyOf stepOf afterMove takesRoute passedBy passes passed unmet again meets lists gather reached howMany holders afterMoves logOf playLog numbers only times plays joins keyListOf eventsOf
+unfolding computes one afterMove takesRoute passedBy passes passed howMany holders afterMoves logOf playLog numbers only times plays joins eventsOf
 example-D = record { phase = refl; set = refl; list = refl; count = refl; numbers = refl; stands = refl; routes = refl; linked = refl }
 
 -- `R 1 2 -1 0`
@@ -105,5 +101,5 @@ pub record Crossed (s : State) : Type 0 where
   pub list : keyListOf (afterMoves s (times 8 (steps 0))) ≡ Keys 126
 
 pub crossed : Crossed (afterMoves (fresh crossSettings) crossing)
-unfolding one with without union below from rising listOf size splitKey fresh placeAt threadAt hangs searches seeks row1 row2 row3 row4 commits decides row5 noSplit split row6 row7 row8 row9 row10 row11 noJoin join row12 row13 row14 row15 row16 row17 row18 row19 row20 row21 row22 row23 row24 row25 row0 rows planOf needs stuck settingsInRange bodyInRange placeInRange registerInRange registersInRange threadInRange placesInRange threadsInRange countsInRange inRange begun beginOf viewBefore nextOf viewOf put apply after replyOf stepOf afterMove takesRoute passedBy passes passed unmet again meets lists gather reached howMany holders afterMoves logOf playLog times plays contended grown crossing keyListOf
+unfolding computes one afterMove takesRoute passedBy passes passed howMany holders afterMoves logOf playLog times plays contended grown crossing
 crossed = record { phase = refl; count = refl; list = refl }

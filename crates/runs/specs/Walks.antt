@@ -2,12 +2,8 @@
 use mathlib.Core.List.{List, _++_}
 use mathlib.Core.Path.{_≡_, refl}
 use Prim.Native.Nat.{ℕ, zero, suc, _+_}
-use Rattle.keys.specs.Keys.{with, without, union, below, from, rising, listOf, size, splitKey}
-use Rattle.rules.specs.State.{fresh, placeAt, threadAt}
-use Rattle.rules.specs.Rows.{hangs, searches, seeks, row1, row2, row3, row4, commits, decides, row5, noSplit, split, row6, row7, row8, row9, row10, row11, noJoin, join, row12, row13, row14, row15, row16, row17, row18, row19, row20, row21, row22, row23, row24, row25, row0, rows, planOf}
-use Rattle.rules.specs.Needs.{needs, stuck}
-use Rattle.rules.specs.Range.{settingsInRange, bodyInRange, placeInRange, registerInRange, registersInRange, threadInRange, placesInRange, threadsInRange, countsInRange, inRange}
-use Rattle.rules.specs.Step.{begun, beginOf, viewBefore, nextOf, viewOf, put, apply, after, replyOf, stepOf}
+use Rattle.rules.specs.State.{fresh, threadAt}
+use Rattle.rules.specs.Computes.{computes}
 use Rattle.runs.specs.Calls.{Move, steps, afterMove, afterMoves, times}
 use Rattle.runs.specs.Passes.{one, takesRoute, passedBy, passes, passed}
 use Rattle.runs.specs.Instance.{plays, crossSettings, contended, grown}
@@ -38,5 +34,5 @@ pub record Walked : Type 0 where
   pub at-23-passes : passed 1 (fresh crossSettings) (descends 17) 0 ≡ 2
 
 pub walked : Walked
-unfolding one with without union below from rising listOf size splitKey fresh placeAt threadAt hangs searches seeks row1 row2 row3 row4 commits decides row5 noSplit split row6 row7 row8 row9 row10 row11 noJoin join row12 row13 row14 row15 row16 row17 row18 row19 row20 row21 row22 row23 row24 row25 row0 rows planOf needs stuck settingsInRange bodyInRange placeInRange registerInRange registersInRange threadInRange placesInRange threadsInRange countsInRange inRange begun beginOf viewBefore nextOf viewOf put apply after replyOf stepOf afterMove afterMoves takesRoute passedBy passes passed times plays contended grown splits chain longest descends
+unfolding computes one afterMove afterMoves takesRoute passedBy passes passed times plays contended grown splits chain longest descends
 walked = record { longest-passes = refl; at-22 = refl; at-22-passes = refl; at-23 = refl; at-23-passes = refl }

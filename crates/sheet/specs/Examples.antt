@@ -1,114 +1,266 @@
--- "Played examples": those marked P, A to J, as schedules with their sheets in full, and one statement about all of them.
+-- "Played examples": those marked P, A to J, in one list, and one statement about all of them. "Blanks stand for tabs."
 use mathlib.Core.Path.{_≡_, refl}
-use mathlib.Core.List.{List, [], _∷_, map}
-use Prim.Native.Nat.{ℕ}
+use mathlib.Core.Bool.{cond}
+use mathlib.Core.List.{List, [], _∷_, _++_, map}
+use Prim.Native.Nat.{ℕ, _-_}
 use Prim.Native.Char.{code}
 use Prim.Native.String as String
 use Prim.Native.String.{String}
-use Rattle.keys.specs.Keys.{with, without, union, below, from, rising, listOf, size, splitKey}
-use Rattle.rules.specs.State.{fresh, placeAt, threadAt}
-use Rattle.rules.specs.Rows.{hangs, searches, seeks, row1, row2, row3, row4, commits, decides, row5, noSplit, split, row6, row7, row8, row9, row10, row11, noJoin, join, row12, row13, row14, row15, row16, row17, row18, row19, row20, row21, row22, row23, row24, row25, row0, rows, planOf}
-use Rattle.rules.specs.Needs.{needs, stuck}
-use Rattle.rules.specs.Range.{settingsInRange, bodyInRange, placeInRange, registerInRange, registersInRange, threadInRange, placesInRange, threadsInRange, countsInRange, inRange}
-use Rattle.rules.specs.Step.{zeroSettings, freshOf, begun, beginOf, viewBefore, nextOf, viewOf, put, apply, after, replyOf, stepOf, steps, runOf}
-use Rattle.rules.specs.List.{unmet, again, meets, lists, gather, reached, keyListOf}
-use Rattle.text.specs.Text.{onto, fields, lines, isLetter, digits, isNumber, valueFrom, value, decimalOf, decimal, tabbed, sheetLine, commas, keysText, keysLine}
+use lib.Dec.{eqb}
+use Rattle.keys.specs.Keys.{listOf}
+use Rattle.rules.specs.State.{zeroStatistics, placeAt, threadAt}
+use Rattle.rules.specs.Places.{keysOf, routeKey}
+use Rattle.rules.specs.Computes.{computes}
+use Rattle.rules.specs.declared.state.State.{State}
+use Rattle.text.specs.Text.{tab, newline, onto, fields, lines, isLetter, digits, isNumber, valueFrom, value, decimalOf, decimal, tabbed, sheetLine, commas, keysText, keysLine}
 use Rattle.forms.specs.Form.{isBelow, isMin, lowOf, isFirst, settingsOf, settingsForm, ranged, firstForm, isOperation, operationOf, isBegin, isSteps, lineForm}
 use Rattle.sheet.specs.Sheet.{refusal, beginLine, runLine, playForm, lineOf, endText, endForm, endOf, firstPlayed, firstOf, playLines, playFirst, playAll, sheetOf}
 
-pub record Example : Type 0 where
+-- ---- what an example says
+
+-- what document 01 says of a state: numbers of it, and what they are
+pub record Fact : Type 0 where
+  pub asks : State → List ℕ
+  pub said : List ℕ
+
+-- a line of the schedule, its sheet line, and what is said of the state after it
+pub record Line : Type 0 where
   pub schedule : String
   pub sheet : String
+  pub facts : List Fact
 
--- the bytes of a text
-abbrev pub bytes : String → List ℕ
-bytes String.[] = []
-bytes (String._∷_ c s) = code c ∷ bytes s
+-- its lines, and the last line of its sheet
+pub record Example : Type 0 where
+  pub lines : List Line
+  pub last : String
 
--- what document 01 says that the sheet is
-abbrev pub written : Example → List ℕ
-written e = bytes (e .sheet)
+-- a line after which no more is said
+abbrev pub line : String → String → Line
+line schedule sheet = record { schedule = schedule; sheet = sheet; facts = [] }
 
--- what the definitions say
-abbrev pub played : Example → List ℕ
-played e = sheetOf (bytes (e .schedule))
+-- a line, and what is said of the state after it
+abbrev pub after : String → String → List Fact → Line
+after schedule sheet facts = record { schedule = schedule; sheet = sheet; facts = facts }
+
+-- thread t is in phase p
+abbrev pub phaseIs : ℕ → ℕ → Fact
+phaseIs t p = record { asks = λ s. threadAt s t .phase ∷ []; said = p ∷ [] }
+
+-- base n has statistics x, which are above 0
+abbrev pub statisticsAre : ℕ → ℕ → Fact
+statisticsAre n x = record { asks = λ s. (placeAt s n .lock .statistics - zeroStatistics) ∷ []; said = x ∷ [] }
+
+-- route n has key k
+abbrev pub routeHas : ℕ → ℕ → Fact
+routeHas n k = record { asks = λ s. routeKey (placeAt s n) ∷ []; said = k ∷ [] }
+
+-- base n holds the keys ks, rising
+abbrev pub baseHolds : ℕ → List ℕ → Fact
+baseHolds n ks = record { asks = λ s. listOf (keysOf (placeAt s n)); said = ks }
+
+-- ---- the examples
+
+-- the lines of B
+unfoldable pub linesOfB : List Line
+linesOfB =
+    line "R 1 3 -1 2" "R"
+    -- "thread 0 inserts 5, 9, 2, each run to its end"
+    ∷ line "B 0 I 5" "B 0"
+    ∷ line "S 0 1000" "D 0 4 1 1"
+    ∷ line "B 0 I 9" "B 0"
+    ∷ line "S 0 1000" "D 0 4 1 2"
+    ∷ line "B 0 I 2" "B 0"
+    ∷ line "S 0 1000" "D 0 4 1 3"
+    -- "Thread 0 begins L 5 and takes 2 steps"
+    ∷ line "B 0 L 5" "B 0"
+    ∷ line "S 0 2" "S 0 2 5"
+    -- "thread 1 begins I 7 and takes 2: phase 4"
+    ∷ line "B 1 I 7" "B 1"
+    ∷ after "S 1 2" "S 1 2 4" (phaseIs 1 4 ∷ [])
+    -- "Thread 1 takes 1 more: phase 4"
+    ∷ after "S 1 1" "S 1 1 4" (phaseIs 1 4 ∷ [])
+    -- "Thread 0 ends: `D 0 2 1 4`"
+    ∷ line "S 0 1000" "D 0 2 1 4"
+    -- "Thread 1 takes 1: phase 5, statistics 3"
+    ∷ after "S 1 1" "S 1 1 5" (phaseIs 1 5 ∷ statisticsAre 0 3 ∷ [])
+    -- "1 more: phase 6"
+    ∷ after "S 1 1" "S 1 1 6" (phaseIs 1 6 ∷ [])
+    -- "then `D 1 4 1 5`. Route 3 has key 7, base 1 holds 2, 5, base 2 holds 7, 9"
+    ∷ after "S 1 1000" "D 1 4 1 5" (routeHas 3 7 ∷ baseHolds 1 (2 ∷ 5 ∷ []) ∷ baseHolds 2 (7 ∷ 9 ∷ []) ∷ [])
+    ∷ []
+
+-- I up to a taking at phase 5: base 0 is taken once at phase 3 and then twice at phase 4; thread 1 does this operation in between
+unfoldable pub twiceContended : String → String → List Line
+twiceContended settings operation =
+    line settings "R"
+    ∷ line "B 0 I 5" "B 0"
+    ∷ line "S 0 2" "S 0 2 5"
+    ∷ line operation "B 1"
+    ∷ line "S 1 2" "S 1 2 4"
+    ∷ line "S 0 1000" "D 0 2 1 1"
+    ∷ line "S 1 1" "S 1 1 5"
+    ∷ line "B 0 L 5" "B 0"
+    ∷ line "S 0 2" "S 0 2 4"
+    ∷ line "S 1 1000" "D 1 2 1 2"
+    ∷ []
 
 unfoldable pub examples : List Example
 examples =
     -- A
     record {
-      schedule = "R\t1\t250\t-1000\t1000\nB\t0\tI\t5\nS\t0\t1000\nB\t1\tL\t5\nS\t1\t2\nS\t1\t1000\n";
-      sheet = "R\nB\t0\nD\t0\t4\t1\t1\nB\t1\nS\t1\t2\t5\nD\t1\t2\t1\t2\nE\t2\t1\t5\n";
-    }
-    ∷
-    -- A with no final newline: the same result
-    record {
-      schedule = "R\t1\t250\t-1000\t1000\nB\t0\tI\t5\nS\t0\t1000\nB\t1\tL\t5\nS\t1\t2\nS\t1\t1000";
-      sheet = "R\nB\t0\nD\t0\t4\t1\t1\nB\t1\nS\t1\t2\t5\nD\t1\t2\t1\t2\nE\t2\t1\t5\n";
+      lines =
+          line "R 1 250 -1000 1000" "R"
+          ∷ line "B 0 I 5" "B 0"
+          ∷ line "S 0 1000" "D 0 4 1 1"
+          ∷ line "B 1 L 5" "B 1"
+          ∷ line "S 1 2" "S 1 2 5"
+          ∷ line "S 1 1000" "D 1 2 1 2"
+          ∷ [];
+      last = "E 2 1 5";
     }
     ∷
     -- B
-    record {
-      schedule = "R\t1\t3\t-1\t2\nB\t0\tI\t5\nS\t0\t1000\nB\t0\tI\t9\nS\t0\t1000\nB\t0\tI\t2\nS\t0\t1000\nB\t0\tL\t5\nS\t0\t2\nB\t1\tI\t7\nS\t1\t2\nS\t1\t1\nS\t0\t1000\nS\t1\t1\nS\t1\t1\nS\t1\t1000\n";
-      sheet = "R\nB\t0\nD\t0\t4\t1\t1\nB\t0\nD\t0\t4\t1\t2\nB\t0\nD\t0\t4\t1\t3\nB\t0\nS\t0\t2\t5\nB\t1\nS\t1\t2\t4\nS\t1\t1\t4\nD\t0\t2\t1\t4\nS\t1\t1\t5\nS\t1\t1\t6\nD\t1\t4\t1\t5\nE\t5\t4\t2,5,7,9\n";
-    }
+    record { lines = linesOfB; last = "E 5 4 2,5,7,9" }
     ∷
     -- C
     record {
-      schedule = "R\t1\t3\t-1\t2\nB\t0\tI\t5\nS\t0\t1000\nB\t0\tI\t9\nS\t0\t1000\nB\t0\tI\t2\nS\t0\t1000\nB\t0\tL\t5\nS\t0\t2\nB\t1\tI\t7\nS\t1\t2\nS\t1\t1\nS\t0\t1000\nS\t1\t1\nS\t1\t1\nS\t1\t1000\nB\t0\tL\t2\nS\t0\t1000\nB\t0\tL\t2\nS\t0\t1000\n";
-      sheet = "R\nB\t0\nD\t0\t4\t1\t1\nB\t0\nD\t0\t4\t1\t2\nB\t0\nD\t0\t4\t1\t3\nB\t0\nS\t0\t2\t5\nB\t1\nS\t1\t2\t4\nS\t1\t1\t4\nD\t0\t2\t1\t4\nS\t1\t1\t5\nS\t1\t1\t6\nD\t1\t4\t1\t5\nB\t0\nD\t0\t5\t1\t6\nB\t0\nD\t0\t16\t1\t7\nE\t7\t5\t2,5,7,9\n";
+      lines =
+          -- "after B"
+          linesOfB
+          -- "thread 0 looks up 2: 5 steps, commit 6. It looks up 2 again: 16 steps"
+          ++ (line "B 0 L 2" "B 0" ∷ line "S 0 1000" "D 0 5 1 6" ∷ line "B 0 L 2" "B 0" ∷ line "S 0 1000" "D 0 16 1 7" ∷ []);
+      last = "E 7 5 2,5,7,9";
     }
     ∷
     -- D
     record {
-      schedule = "R\t1\t3\t-1\t2\nB\t0\tI\t5\nS\t0\t1000\nB\t0\tI\t9\nS\t0\t1000\nB\t0\tI\t2\nS\t0\t1000\nB\t0\tL\t5\nS\t0\t2\nB\t1\tI\t7\nS\t1\t2\nS\t1\t1\nS\t0\t1000\nS\t1\t1\nS\t1\t1\nS\t1\t1000\nB\t0\tL\t2\nS\t0\t1000\nB\t0\tL\t2\nS\t0\t12\n";
-      sheet = "R\nB\t0\nD\t0\t4\t1\t1\nB\t0\nD\t0\t4\t1\t2\nB\t0\nD\t0\t4\t1\t3\nB\t0\nS\t0\t2\t5\nB\t1\nS\t1\t2\t4\nS\t1\t1\t4\nD\t0\t2\t1\t4\nS\t1\t1\t5\nS\t1\t1\t6\nD\t1\t4\t1\t5\nB\t0\nD\t0\t5\t1\t6\nB\t0\nS\t0\t12\t21\nE\t7\t5\t7,9\n";
+      lines =
+          -- "as C, but the last lookup gets 12 steps"
+          linesOfB
+          ++ (line "B 0 L 2" "B 0" ∷ line "S 0 1000" "D 0 5 1 6" ∷ line "B 0 L 2" "B 0" ∷ line "S 0 12" "S 0 12 21" ∷ []);
+      last = "E 7 5 7,9";
     }
     ∷
-    -- E: the empty file
-    record {
-      schedule = "";
-      sheet = "X\t2\n";
-    }
+    -- E: "empty file"
+    record { lines = []; last = "X 2" }
     ∷
-    -- F
-    record {
-      schedule = "R\t1\t250\t-1000\t1000\nB\t8\tI\t64\n";
-      sheet = "R\nX\t3\nE\t0\t1\t-\n";
-    }
+    -- F: "`B 8 I 64` after settings"
+    record { lines = line "R 1 250 -1000 1000" "R" ∷ line "B 8 I 64" "X 3" ∷ []; last = "E 0 1 -" }
     ∷
-    -- G
-    record {
-      schedule = "R\t1\t250\t-1000\t1000\nB\t0\tI\t63\nB\t0\tI\t64\n";
-      sheet = "R\nB\t0\nX\t4\nE\t0\t1\t-\n";
-    }
+    -- G: "`B 0 I 63` accepted, `B 0 I 64` is `X 4`"
+    record { lines = line "R 1 250 -1000 1000" "R" ∷ line "B 0 I 63" "B 0" ∷ line "B 0 I 64" "X 4" ∷ []; last = "E 0 1 -" }
     ∷
     -- H
     record {
-      schedule = "R\t1\t250\t-1000\t1000\nB\t0\tI\t5\nS\t0\t1000\nS\t0\t1001\nB\t0\tI\t6\nS\t0\t1001\n";
-      sheet = "R\nB\t0\nD\t0\t4\t1\t1\nX\t10\nB\t0\nX\t10\nE\t1\t1\t5\n";
+      lines =
+          line "R 1 250 -1000 1000" "R"
+          -- "`S 0 1000` accepted when busy"
+          ∷ line "B 0 I 5" "B 0"
+          ∷ line "S 0 1000" "D 0 4 1 1"
+          -- "`S 0 1001` is `X 10` even when idle": idle, then busy
+          ∷ line "S 0 1001" "X 10"
+          ∷ line "B 0 I 6" "B 0"
+          ∷ line "S 0 1001" "X 10"
+          ∷ [];
+      last = "E 1 1 5";
     }
     ∷
-    -- I: two waits of 500 each make the statistics exactly 1000, and that does not split
+    -- I: "statistics exactly 1000 with max 1000: no split". They are 0 + 500 + 500
     record {
-      schedule = "R\t0\t500\t0\t1000\nB\t0\tI\t5\nS\t0\t2\nB\t1\tI\t6\nS\t1\t2\nS\t0\t1000\nS\t1\t1\nB\t0\tL\t5\nS\t0\t2\nS\t1\t1000\nS\t0\t1\nS\t0\t1\nS\t0\t1000\n";
-      sheet = "R\nB\t0\nS\t0\t2\t5\nB\t1\nS\t1\t2\t4\nD\t0\t2\t1\t1\nS\t1\t1\t5\nB\t0\nS\t0\t2\t4\nD\t1\t2\t1\t2\nS\t0\t1\t5\nS\t0\t1\t25\nD\t0\t1\t1\t3\nE\t3\t1\t5,6\n";
+      lines =
+          twiceContended "R 0 500 0 1000" "B 1 I 6"
+          ++ (after "S 0 1" "S 0 1 5" (statisticsAre 0 1000 ∷ baseHolds 0 (5 ∷ 6 ∷ []) ∷ [])
+          ∷ line "S 0 1" "S 0 1 25"
+          ∷ after "S 0 1000" "D 0 1 1 3" (statisticsAre 0 1000 ∷ baseHolds 0 (5 ∷ 6 ∷ []) ∷ [])
+          ∷ []);
+      last = "E 3 1 5,6";
     }
     ∷
-    -- I: seven waits of 143 each make 1001, and that splits
+    -- I: "1001: split if 2 keys". They are -1 + 501 + 501
     record {
-      schedule = "R\t0\t143\t0\t1000\nB\t0\tI\t5\nS\t0\t2\nB\t1\tI\t6\nS\t1\t2\nS\t0\t1000\nS\t1\t1\nB\t0\tL\t5\nS\t0\t2\nS\t1\t1000\nS\t0\t1\nB\t1\tL\t5\nS\t1\t2\nS\t0\t1000\nS\t1\t1\nB\t0\tL\t5\nS\t0\t2\nS\t1\t1000\nS\t0\t1\nB\t1\tL\t5\nS\t1\t2\nS\t0\t1000\nS\t1\t1\nB\t0\tL\t5\nS\t0\t2\nS\t1\t1000\nS\t0\t1\nB\t1\tL\t5\nS\t1\t2\nS\t0\t1000\nS\t1\t1\nS\t1\t1\nS\t1\t1000\n";
-      sheet = "R\nB\t0\nS\t0\t2\t5\nB\t1\nS\t1\t2\t4\nD\t0\t2\t1\t1\nS\t1\t1\t5\nB\t0\nS\t0\t2\t4\nD\t1\t2\t1\t2\nS\t0\t1\t5\nB\t1\nS\t1\t2\t4\nD\t0\t2\t1\t3\nS\t1\t1\t5\nB\t0\nS\t0\t2\t4\nD\t1\t2\t1\t4\nS\t0\t1\t5\nB\t1\nS\t1\t2\t4\nD\t0\t2\t1\t5\nS\t1\t1\t5\nB\t0\nS\t0\t2\t4\nD\t1\t2\t1\t6\nS\t0\t1\t5\nB\t1\nS\t1\t2\t4\nD\t0\t2\t1\t7\nS\t1\t1\t5\nS\t1\t1\t6\nD\t1\t4\t1\t8\nE\t8\t4\t5,6\n";
+      lines =
+          twiceContended "R 1 501 -1 1000" "B 1 I 6"
+          ++ (after "S 0 1" "S 0 1 5" (statisticsAre 0 1001 ∷ baseHolds 0 (5 ∷ 6 ∷ []) ∷ [])
+          ∷ line "S 0 1" "S 0 1 6"
+          ∷ after "S 0 1000" "D 0 4 1 3" (routeHas 3 6 ∷ baseHolds 1 (5 ∷ []) ∷ baseHolds 2 (6 ∷ []) ∷ [])
+          ∷ []);
+      last = "E 3 4 5,6";
     }
     ∷
-    -- J
+    -- I: "1001: split if 2 keys". With 1 key no split
     record {
-      schedule = "R\t1\t250\t-1000\t1000\nB\t0\tI\t5\nB\t0\tD\t5\nS\t0\t1000\n";
-      sheet = "R\nB\t0\nX\t5\nD\t0\t4\t1\t1\nE\t1\t1\t5\n";
+      lines =
+          twiceContended "R 1 501 -1 1000" "B 1 L 5"
+          ++ (after "S 0 1" "S 0 1 5" (statisticsAre 0 1001 ∷ baseHolds 0 (5 ∷ []) ∷ [])
+          ∷ line "S 0 1" "S 0 1 25"
+          ∷ line "S 0 1000" "D 0 1 1 3"
+          ∷ []);
+      last = "E 3 1 5";
+    }
+    ∷
+    -- J: "second begin on a busy thread: `X 5`, and its first operation ends as before"
+    record {
+      lines = line "R 1 250 -1000 1000" "R" ∷ line "B 0 I 5" "B 0" ∷ line "B 0 D 5" "X 5" ∷ line "S 0 1000" "D 0 4 1 1" ∷ [];
+      last = "E 1 1 5";
     }
     ∷ []
 
+-- ---- the statement
+
+-- what an example comes to: the bytes of its sheet, those of its sheet with no final newline in the schedule, and the numbers of its states
+pub record Outcome : Type 0 where
+  pub sheet : List ℕ
+  pub unended : List ℕ
+  pub numbers : List (List ℕ)
+
+-- the bytes of a text: "Blanks stand for tabs"
+abbrev pub bytes : String → List ℕ
+bytes String.[] = []
+bytes (String._∷_ c s) = cond (eqb (code c) 32) tab (code c) ∷ bytes s
+
+-- some lines, parted by newlines
+unfoldable pub parted : List String → List ℕ
+parted [] = []
+parted (l ∷ []) = bytes l
+parted (l ∷ m ∷ ls) = bytes l ++ (newline ∷ parted (m ∷ ls))
+
+-- some lines, each ended by a newline
+unfoldable pub ended : List String → List ℕ
+ended [] = []
+ended (l ∷ ls) = bytes l ++ (newline ∷ ended ls)
+
+-- the lines of the schedule
+abbrev pub scheduleOf : Example → List String
+scheduleOf e = map (λ (l : Line). l .schedule) (e .lines)
+
+-- the numbers asked of the state after each line, from a state on
+unfoldable pub asked : State → List Line → List (List ℕ)
+asked s [] = []
+asked s (l ∷ ls) =
+    let u = playForm s (lineForm (bytes (l .schedule))) .state in
+    map (λ (f : Fact). f .asks u) (l .facts) ++ asked u ls
+
+-- the first line makes the state
+unfoldable pub askedOf : List Line → List (List ℕ)
+askedOf [] = []
+askedOf (l ∷ ls) = asked (firstPlayed (firstForm (bytes (l .schedule))) .state) ls
+
+-- the numbers said
+unfoldable pub saidOf : List Line → List (List ℕ)
+saidOf [] = []
+saidOf (l ∷ ls) = map (λ (f : Fact). f .said) (l .facts) ++ saidOf ls
+
+-- what the definitions give
+abbrev pub played : Example → Outcome
+played e = record { sheet = sheetOf (ended (scheduleOf e)); unended = sheetOf (parted (scheduleOf e)); numbers = askedOf (e .lines) }
+
+-- what document 01 says
+abbrev pub written : Example → Outcome
+written e =
+    let sheet = ended (map (λ (l : Line). l .sheet) (e .lines) ++ (e .last ∷ [])) in
+    record { sheet = sheet; unended = sheet; numbers = saidOf (e .lines) }
+
 -- every example is played as document 01 has it
 pub examples-played : map played examples ≡ map written examples
-unfolding with without union below from rising listOf size splitKey fresh placeAt threadAt hangs searches seeks row1 row2 row3 row4 commits decides row5 noSplit split row6 row7 row8 row9 row10 row11 noJoin join row12 row13 row14 row15 row16 row17 row18 row19 row20 row21 row22 row23 row24 row25 row0 rows planOf needs stuck settingsInRange bodyInRange placeInRange registerInRange registersInRange threadInRange placesInRange threadsInRange countsInRange inRange zeroSettings freshOf begun beginOf viewBefore nextOf viewOf put apply after replyOf stepOf steps runOf unmet again meets lists gather reached keyListOf onto fields lines digits isNumber valueFrom value decimalOf decimal tabbed sheetLine commas keysText keysLine isLetter isBelow isMin lowOf isFirst settingsOf settingsForm ranged firstForm isOperation operationOf isBegin isSteps lineForm refusal beginLine runLine playForm lineOf endText endForm endOf firstPlayed firstOf playLines playFirst playAll sheetOf examples
+unfolding computes onto fields lines isLetter digits isNumber valueFrom value decimalOf decimal tabbed sheetLine commas keysText keysLine isBelow isMin lowOf isFirst settingsOf settingsForm ranged firstForm isOperation operationOf isBegin isSteps lineForm refusal beginLine runLine playForm lineOf endText endForm endOf firstPlayed firstOf playLines playFirst playAll sheetOf linesOfB twiceContended examples parted ended asked askedOf saidOf
 examples-played = refl
