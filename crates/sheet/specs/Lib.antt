@@ -1,4 +1,5 @@
 pub mod Sheet
 pub mod States
 pub mod Called
+pub mod Inner
 pub mod Examples
