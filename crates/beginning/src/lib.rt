@@ -11,7 +11,7 @@ use rules::state::State;
 ghost use mathlib.Core.Path.{_≡_};
 ghost use Prim.Native.Nat.{_<_};
 ghost use Rattle.rules.specs.State.{unmade};
-ghost use Rattle.rules.specs.Step.{zeroSettings, freshOf, begun, beginOf};
+ghost use Rattle.rules.specs.Step.{zeroSettings, freshOf, begun, beginIn, beginOf};
 
 // A place that is not made.
 fn unmade() -> Place
@@ -100,13 +100,10 @@ fn begun(s: State, t: u32, o: u8, k: u8) -> State
     u
 }
 
-// Begin operation `o` (0 insert, 1 delete, 2 lookup) on key `k` in thread `t`.
-pub fn begin(s: State, t: u32, o: u32, k: u32) -> Begin
-    ensures { λ r. ⌜ r ≡ beginOf s t o k ⌝ }
+// Begin operation `o` (0 insert, 1 delete, 2 lookup) on key `k` in thread `t`, without the range test.
+pub fn begin_in(s: State, t: u32, o: u32, k: u32) -> Begin
+    ensures { λ r. ⌜ r ≡ beginIn s t o k ⌝ }
 {
-    if !range::in_range(s) {
-        return refused_begin(s, 7);
-    }
     if 2 < o {
         return refused_begin(s, 1);
     }
@@ -129,4 +126,14 @@ pub fn begin(s: State, t: u32, o: u32, k: u32) -> Begin
         reply: BeginReply::Begun,
         state: begun(s, t, o as u8, k as u8),
     }
+}
+
+// Begin operation `o` on key `k` in thread `t`.
+pub fn begin(s: State, t: u32, o: u32, k: u32) -> Begin
+    ensures { λ r. ⌜ r ≡ beginOf s t o k ⌝ }
+{
+    if !range::in_range(s) {
+        return refused_begin(s, 7);
+    }
+    begin_in(s, t, o, k)
 }

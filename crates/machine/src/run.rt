@@ -8,7 +8,7 @@ use rules::state::State;
 ghost use mathlib.Core.Path.{_≡_};
 ghost use Prim.Native.Nat.{_<_, _≤_};
 ghost use Rattle.states.specs.Waits.{waits};
-ghost use Rattle.rules.specs.Step.{refusedRun, steps, runOf};
+ghost use Rattle.rules.specs.Step.{refusedRun, steps, runIn, runOf};
 
 fn refused_run(s: State, number: u8) -> Run
     ensures { λ r. ⌜ r ≡ refusedRun s number ⌝ }
@@ -79,13 +79,10 @@ fn take_steps(s: State, t: u32, n: u32) -> Run
     }
 }
 
-// Take `n` steps of thread `t`, or fewer if the operation ends.
-pub fn run(s: State, t: u32, n: u32) -> Run
-    ensures { λ r. ⌜ r ≡ runOf s t n ⌝ }
+// Take `n` steps of thread `t`, or fewer if the operation ends, without the range test.
+pub fn run_in(s: State, t: u32, n: u32) -> Run
+    ensures { λ r. ⌜ r ≡ runIn s t n ⌝ }
 {
-    if !range::in_range(s) {
-        return refused_run(s, 7);
-    }
     if 7 < t {
         return refused_run(s, 3);
     }
@@ -101,4 +98,14 @@ pub fn run(s: State, t: u32, n: u32) -> Run
         return refused_run(s, 6);
     }
     take_steps(s, t, n)
+}
+
+// Take `n` steps of thread `t`, or fewer if the operation ends.
+pub fn run(s: State, t: u32, n: u32) -> Run
+    ensures { λ r. ⌜ r ≡ runOf s t n ⌝ }
+{
+    if !range::in_range(s) {
+        return refused_run(s, 7);
+    }
+    run_in(s, t, n)
 }

@@ -61,15 +61,18 @@ begun s t o k = withThread s (s .begun + 1) t (setOperation o k (threadAt s t))
 abbrev pub refusedBegin : State → ℕ → Begin
 refusedBegin s n = record { reply = BeginReply.the-variants.Refused n; state = s }
 
--- "Order: begin 7, 1, 3, 4, 5, 11"
-unfoldable pub beginOf : State → ℕ → ℕ → ℕ → Begin
-beginOf s t o k =
-    cond (not (inRange s)) (refusedBegin s 7)
-    (cond (ltb 2 o) (refusedBegin s 1)
+-- begin in a state that is in range: "1, 3, 4, 5, 11"
+abbrev pub beginIn : State → ℕ → ℕ → ℕ → Begin
+beginIn s t o k =
+    cond (ltb 2 o) (refusedBegin s 1)
     (cond (ltb 7 t) (refusedBegin s 3)
     (cond (ltb 63 k) (refusedBegin s 4)
     (cond (not (eqb (threadAt s t .phase) 0)) (refusedBegin s 5)
-    (cond (leb 1000000 (s .begun)) (refusedBegin s 11) (record { reply = BeginReply.the-variants.Begun; state = begun s t o k }))))))
+    (cond (leb 1000000 (s .begun)) (refusedBegin s 11) (record { reply = BeginReply.the-variants.Begun; state = begun s t o k })))))
+
+-- "Order: begin 7, 1, 3, 4, 5, 11"
+unfoldable pub beginOf : State → ℕ → ℕ → ℕ → Begin
+beginOf s t o k = cond (not (inRange s)) (refusedBegin s 7) (beginIn s t o k)
 
 -- ---- one step
 
@@ -191,22 +194,22 @@ steps (suc n) from s t taken =
           ]
     ]
 
--- "then 3, 4, 10, 5, 6, 11, 8 as they apply"
-unfoldable pub runOf : State → ℕ → ℕ → Run
-runOf s t n =
-    elim (not (inRange s)) [
-      | true ↦ refusedRun s 7
+-- counted steps in a state that is in range: "3, .. 10, .. 6, .. 8 as they apply"
+abbrev pub runIn : State → ℕ → ℕ → Run
+runIn s t n =
+    elim (ltb 7 t) [
+      | true ↦ refusedRun s 3
       | false ↦
-          elim (ltb 7 t) [
-            | true ↦ refusedRun s 3
+          elim (eqb n 0) [
+            | true ↦ refusedRun s 10
             | false ↦
-                elim (eqb n 0) [
+                elim (ltb 1000 n) [
                   | true ↦ refusedRun s 10
-                  | false ↦
-                      elim (ltb 1000 n) [
-                        | true ↦ refusedRun s 10
-                        | false ↦ elim (eqb (threadAt s t .phase) 0) [ true ↦ refusedRun s 6 | false ↦ steps n s s t 0 ]
-                      ]
+                  | false ↦ elim (eqb (threadAt s t .phase) 0) [ true ↦ refusedRun s 6 | false ↦ steps n s s t 0 ]
                 ]
           ]
     ]
+
+-- "then 3, 4, 10, 5, 6, 11, 8 as they apply"
+unfoldable pub runOf : State → ℕ → ℕ → Run
+runOf s t n = elim (not (inRange s)) [ true ↦ refusedRun s 7 | false ↦ runIn s t n ]

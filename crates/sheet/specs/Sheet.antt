@@ -7,7 +7,7 @@ use lib.ListN.{length}
 use Rattle.keys.specs.Keys.{listOf}
 use Rattle.rules.specs.State.{fresh}
 use Rattle.rules.specs.Range.{inRange}
-use Rattle.rules.specs.Step.{zeroSettings, beginOf, runOf}
+use Rattle.rules.specs.Step.{zeroSettings, beginIn, beginOf, runIn, runOf}
 use Rattle.rules.specs.List.{keyListOf}
 use Rattle.rules.specs.declared.state.State.{State}
 use Rattle.rules.specs.declared.answer.Begin.{Begin}
@@ -66,6 +66,16 @@ playForm s Line.the-variants.Slip = refused s 1
 unfoldable pub lineOf : ℕ → State → List ℕ → Played
 lineOf room s l =
     cond (narrow room) (silent s 9) (cond (not (inRange s)) (silent s 7) (playForm s (lineForm l)))
+
+-- a line by what it says, without the range test
+unfoldable pub playIn : State → Line.Line → Played
+playIn s (Line.the-variants.Begin t o k) = beginLine t (beginIn s t o k .state) (beginIn s t o k .reply)
+playIn s (Line.the-variants.Steps t n) = runLine t (runIn s t n .state) (runIn s t n .reply)
+playIn s Line.the-variants.Slip = refused s 1
+
+-- a line call without the range test: "9, .. 1, then 3, 4, 10, 5, 6, 11, 8 as they apply"
+unfoldable pub lineIn : ℕ → State → List ℕ → Played
+lineIn room s l = cond (narrow room) (silent s 9) (playIn s (lineForm l))
 
 -- `E committed made keys`
 unfoldable pub endText : State → List ℕ → List ℕ

@@ -12,9 +12,9 @@ ghost use Prim.Native.Nat.{_≤_};
 ghost use lib.ListN.{length};
 ghost use Rattle.rules.specs.State.{fresh};
 ghost use Rattle.rules.specs.Range.{settingsInRange};
-ghost use Rattle.rules.specs.Step.{zeroSettings, beginOf, runOf};
+ghost use Rattle.rules.specs.Step.{zeroSettings, beginIn, runIn};
 ghost use Rattle.text.specs.Text.{sheetLine};
-ghost use Rattle.sheet.specs.Sheet.{wrote, refused, beginLine, runLine, endForm, firstOf, lineOf, endOf};
+ghost use Rattle.sheet.specs.Sheet.{wrote, refused, beginLine, runLine, endForm, firstOf, lineIn, lineOf, endOf};
 ghost use Rattle.sheet.specs.Called.{Called, answer};
 
 // The least room that is written to.
@@ -68,9 +68,9 @@ fn refused(s: State, number: u8, room: &mut [u8]) -> Answer
 // `B thread`, or a refusal.
 fn begin_line(s: State, t: u32, o: u32, k: u32, room: &mut [u8]) -> Answer
     requires { ⌜ 256 ≤ length (now room) ⌝ }
-    ensures { λ r. ⌜ Called (beginLine t (beginOf s t o k .state) (beginOf s t o k .reply)) (now (room .entry)) r (now (room .exit)) ⌝ }
+    ensures { λ r. ⌜ Called (beginLine t (beginIn s t o k .state) (beginIn s t o k .reply)) (now (room .entry)) r (now (room .exit)) ⌝ }
 {
-    let begin = beginning::begin(s, t, o, k);
+    let begin = beginning::begin_in(s, t, o, k);
     let reply = begin.reply;
     let u = begin.state;
     match reply {
@@ -85,9 +85,9 @@ fn begin_line(s: State, t: u32, o: u32, k: u32, room: &mut [u8]) -> Answer
 // `S thread taken phase`, `D thread taken answer commit`, or a refusal.
 fn steps_line(s: State, t: u32, n: u32, room: &mut [u8]) -> Answer
     requires { ⌜ 256 ≤ length (now room) ⌝ }
-    ensures { λ r. ⌜ Called (runLine t (runOf s t n .state) (runOf s t n .reply)) (now (room .entry)) r (now (room .exit)) ⌝ }
+    ensures { λ r. ⌜ Called (runLine t (runIn s t n .state) (runIn s t n .reply)) (now (room .entry)) r (now (room .exit)) ⌝ }
 {
-    let run = machine::run::run(s, t, n);
+    let run = machine::run::run_in(s, t, n);
     let reply = run.reply;
     let u = run.state;
     match reply {
@@ -160,15 +160,12 @@ pub fn settings_line(line: &[u8], room: &mut [u8]) -> Answer
     }
 }
 
-// Any other line.
-pub fn line(s: State, line: &[u8], room: &mut [u8]) -> Answer
-    ensures { λ r. ⌜ Called (lineOf (length (now (room .entry))) s (now (line .entry))) (now (room .entry)) r (now (room .exit)) ⌝ }
+// Any other line, without the range test.
+pub fn line_in(s: State, line: &[u8], room: &mut [u8]) -> Answer
+    ensures { λ r. ⌜ Called (lineIn (length (now (room .entry))) s (now (line .entry))) (now (room .entry)) r (now (room .exit)) ⌝ }
 {
     if room.len() < LEAST_ROOM {
         return silent(s, 9);
-    }
-    if !range::in_range(s) {
-        return silent(s, 7);
     }
     let form = forms::line_form(line);
     match form {
@@ -180,6 +177,19 @@ pub fn line(s: State, line: &[u8], room: &mut [u8]) -> Answer
         Line::Steps { thread, count } => steps_line(s, thread, count, &mut *room),
         Line::Slip => refused(s, 1, &mut *room),
     }
+}
+
+// Any other line.
+pub fn line(s: State, line: &[u8], room: &mut [u8]) -> Answer
+    ensures { λ r. ⌜ Called (lineOf (length (now (room .entry))) s (now (line .entry))) (now (room .entry)) r (now (room .exit)) ⌝ }
+{
+    if room.len() < LEAST_ROOM {
+        return silent(s, 9);
+    }
+    if !range::in_range(s) {
+        return silent(s, 7);
+    }
+    line_in(s, line, &mut *room)
 }
 
 // The end of the sheet.

@@ -8,7 +8,7 @@ use Rattle.states.specs.Tests.{pick-by}
 use Rattle.rules.specs.State.{threadAt}
 use Rattle.rules.specs.Needs.{stuck}
 use Rattle.rules.specs.Range.{inRange}
-use Rattle.rules.specs.Step.{begun, beginOf, viewOf, after, ends, refusedRun, stepOf, steps, runOf}
+use Rattle.rules.specs.Step.{begun, beginIn, beginOf, viewOf, after, ends, refusedRun, stepOf, steps, runIn, runOf}
 use Rattle.rules.specs.declared.state.State.{State}
 use Rattle.rules.specs.declared.answer.Begin.{Begin}
 use Rattle.rules.specs.declared.answer.Step.{Step}
@@ -30,6 +30,22 @@ pub steps-tests : (n : ℕ) (from s : State) (t taken : ℕ)
 unfolding steps
 steps-tests n from s t taken = branch (stuck (viewOf s t)) (refusedRun from 8) (branch (ends (threadAt s t)) _ refl)
 
+-- without the range test
+pub run-in-tests : (s : State) (t n : ℕ)
+    → runIn s t n
+    ≡ cond (ltb 7 t) (refusedRun s 3)
+    (cond (eqb n 0) (refusedRun s 10)
+    (cond (ltb 1000 n) (refusedRun s 10) (cond (eqb (threadAt s t .phase) 0) (refusedRun s 6) (steps n s s t 0))))
+run-in-tests s t n =
+    branch (ltb 7 t) (refusedRun s 3)
+    (branch (eqb n 0) (refusedRun s 10)
+    (branch (ltb 1000 n) (refusedRun s 10) (branch (eqb (threadAt s t .phase) 0) (refusedRun s 6) refl)))
+
+-- the range test first
+pub run-range : (s : State) (t n : ℕ) → runOf s t n ≡ cond (not (inRange s)) (refusedRun s 7) (runIn s t n)
+unfolding runOf
+run-range s t n = branch (not (inRange s)) (refusedRun s 7) refl
+
 -- "then 3, 4, 10, 5, 6, 11, 8 as they apply"
 pub run-tests : (s : State) (t n : ℕ)
     → runOf s t n
@@ -38,11 +54,16 @@ pub run-tests : (s : State) (t n : ℕ)
     (cond (eqb n 0) (refusedRun s 10)
     (cond (ltb 1000 n) (refusedRun s 10) (cond (eqb (threadAt s t .phase) 0) (refusedRun s 6) (steps n s s t 0)))))
 unfolding runOf
-run-tests s t n =
-    branch (not (inRange s)) (refusedRun s 7)
-    (branch (ltb 7 t) (refusedRun s 3)
-    (branch (eqb n 0) (refusedRun s 10)
-    (branch (ltb 1000 n) (refusedRun s 10) (branch (eqb (threadAt s t .phase) 0) (refusedRun s 6) refl))))
+run-tests s t n = branch (not (inRange s)) (refusedRun s 7) (run-in-tests s t n)
+
+-- in a state that is in range the range test makes no difference: begin
+pub begin-in-range : (s : State) → inRange s ≡ true → (t o k : ℕ) → beginOf s t o k ≡ beginIn s t o k
+unfolding beginOf
+begin-in-range s r t o k = rw r
+
+-- and counted steps
+pub run-in-range : (s : State) → inRange s ≡ true → (t n : ℕ) → runOf s t n ≡ runIn s t n
+run-in-range s r t n = rw (run-range, r)
 
 -- ---- what holds of the state before, and is kept where the call is accepted, holds of the state after
 

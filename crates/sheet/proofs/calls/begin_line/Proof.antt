@@ -4,8 +4,8 @@ use borrow.Author.Needs.{needs}
 use Rattle.sheet.proofs.calls.begin_line.Statement.{statement}
 use Rattle.sheet.proofs.calls.begin_line.Tie as tie
 
-begin-requires : tie.Need-begin-requires
-begin-requires c κs = search needs
+begin-in-requires : tie.Need-begin-in-requires
+begin-in-requires c κs = search needs
 
 enum-told : tie.Need-enum-told
 enum-told c = search needs
@@ -27,20 +27,20 @@ same-length c = search needs
 
 returns : tie.Need-returns
 unfolding beginLine
-returns c = rw (← c .before .before .before .before .before .before .before .before .begin .ensures, c .before .before .before .before .before .enum-told .given .1) (c .before .before .wrote .ensures)
+returns c = rw (← c .before .before .before .before .before .before .before .before .begin-in .ensures, c .before .before .before .before .before .enum-told .given .1) (c .before .before .wrote .ensures)
 
 same-length-2 : tie.Need-same-length-2
 same-length-2 c = search needs
 
 returns-2 : tie.Need-returns-2
 unfolding beginLine
-returns-2 c = rw (← c .before .before .before .before .before .before .before .before .begin .ensures, c .before .before .before .before .before .reply .given .1) (c .before .before .refused .ensures)
+returns-2 c = rw (← c .before .before .before .before .before .before .before .before .begin-in .ensures, c .before .before .before .before .before .reply .given .1) (c .before .before .refused .ensures)
 
 pub begin-line-spec : {M : Type 1} → statement M
 begin-line-spec =
     tie.close
     (tie.spec
-    begin-requires
+    begin-in-requires
     enum-told
     slice-aggregate-wrote
     wrote-requires

@@ -1,7 +1,9 @@
 -- `sheet::calls::line` meets its contract.
-use borrow.Author.Tests.{lt-ltb, le-ltb}
-use Rattle.sheet.specs.Sheet.{playForm, lineOf}
+use mathlib.Core.Path.{sym, _∙_}
+use borrow.Author.Tests.{lt-ltb, le-ltb, not-false}
+use Rattle.sheet.specs.Sheet.{lineOf}
 use Rattle.sheet.specs.Called.{called-silent}
+use Rattle.sheet.specs.Inner.{line-in-range}
 use borrow.Author.Needs.{needs}
 use Rattle.sheet.proofs.calls.line.Statement.{statement}
 use Rattle.sheet.proofs.calls.line.Tie as tie
@@ -23,47 +25,14 @@ returns-2 : tie.Need-returns-2
 unfolding lineOf
 returns-2 c = rw (le-ltb _ _ (c .before .before .before .if1 .left), ← c .before .before .in-range .ensures, c .before .if2 .taken) (called-silent _ _ (c .silent2 .ensures))
 
-line-form-requires : tie.Need-line-form-requires
-line-form-requires c κs = search needs
-
-enum-known-form : tie.Need-enum-known-form
-enum-known-form c = search needs
-
-begin-line-requires : tie.Need-begin-line-requires
-begin-line-requires c κs = search needs
-
-enum-known-form-2 : tie.Need-enum-known-form-2
-enum-known-form-2 c = search needs
-
-steps-line-requires : tie.Need-steps-line-requires
-steps-line-requires c κs = search needs
-
-enum-told : tie.Need-enum-told
-enum-told c = search needs
-
-refused-requires : tie.Need-refused-requires
-refused-requires c κs = search needs
+line-in-requires : tie.Need-line-in-requires
+line-in-requires c κs = search needs
 
 same-length : tie.Need-same-length
 same-length c = search needs
 
 returns-3 : tie.Need-returns-3
-unfolding lineOf playForm
-returns-3 c = rw (le-ltb _ _ (c .before .before .before .before .before .before .before .before .before .before .if1 .left), ← c .before .before .before .before .before .before .before .before .before .in-range .ensures, c .before .before .before .before .before .before .before .before .if2 .left, ← c .before .before .before .before .before .before .before .line-form .ensures, c .before .before .before .before .before .form .given .1) (c .before .before .begin-line .ensures)
-
-same-length-2 : tie.Need-same-length-2
-same-length-2 c = search needs
-
-returns-4 : tie.Need-returns-4
-unfolding lineOf playForm
-returns-4 c = rw (le-ltb _ _ (c .before .before .before .before .before .before .before .before .before .before .if1 .left), ← c .before .before .before .before .before .before .before .before .before .in-range .ensures, c .before .before .before .before .before .before .before .before .if2 .left, ← c .before .before .before .before .before .before .before .line-form .ensures, c .before .before .before .before .before .form2 .given .1) (c .before .before .steps-line .ensures)
-
-same-length-3 : tie.Need-same-length-3
-same-length-3 c = search needs
-
-returns-5 : tie.Need-returns-5
-unfolding lineOf playForm
-returns-5 c = rw (le-ltb _ _ (c .before .before .before .before .before .before .before .before .before .if1 .left), ← c .before .before .before .before .before .before .before .before .in-range .ensures, c .before .before .before .before .before .before .before .if2 .left, ← c .before .before .before .before .before .before .line-form .ensures, c .before .before .before .before .enum-told .given .1) (c .before .before .refused .ensures)
+returns-3 c = rw (← line-in-range _ (sym (c .before .before .before .before .before .in-range .ensures) ∙ not-false _ (c .before .before .before .before .if2 .left))) (c .before .before .line-in .ensures)
 
 pub line-spec : {M : Type 1} → statement M
 line-spec =
@@ -74,16 +43,6 @@ line-spec =
     in-range-requires
     silent-requires-2
     returns-2
-    line-form-requires
-    enum-known-form
-    begin-line-requires
-    enum-known-form-2
-    steps-line-requires
-    enum-told
-    refused-requires
+    line-in-requires
     same-length
-    returns-3
-    same-length-2
-    returns-4
-    same-length-3
-    returns-5)
+    returns-3)

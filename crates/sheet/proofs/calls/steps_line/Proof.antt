@@ -4,8 +4,8 @@ use borrow.Author.Needs.{needs}
 use Rattle.sheet.proofs.calls.steps_line.Statement.{statement}
 use Rattle.sheet.proofs.calls.steps_line.Tie as tie
 
-run-requires : tie.Need-run-requires
-run-requires c κs = search needs
+run-in-requires : tie.Need-run-in-requires
+run-in-requires c κs = search needs
 
 enum-known-reply : tie.Need-enum-known-reply
 enum-known-reply c = search needs
@@ -42,27 +42,27 @@ same-length c = search needs
 
 returns : tie.Need-returns
 unfolding runLine
-returns c = rw (← c .before .before .before .before .before .before .before .before .before .run .ensures, c .before .before .before .before .before .before .reply .given .1) (c .before .before .wrote .ensures)
+returns c = rw (← c .before .before .before .before .before .before .before .before .before .run-in .ensures, c .before .before .before .before .before .before .reply .given .1) (c .before .before .wrote .ensures)
 
 same-length-2 : tie.Need-same-length-2
 same-length-2 c = search needs
 
 returns-2 : tie.Need-returns-2
 unfolding runLine
-returns-2 c = rw (← c .before .before .before .before .before .before .before .before .before .run .ensures, c .before .before .before .before .before .before .reply2 .given .1) (c .before .before .wrote2 .ensures)
+returns-2 c = rw (← c .before .before .before .before .before .before .before .before .before .run-in .ensures, c .before .before .before .before .before .before .reply2 .given .1) (c .before .before .wrote2 .ensures)
 
 same-length-3 : tie.Need-same-length-3
 same-length-3 c = search needs
 
 returns-3 : tie.Need-returns-3
 unfolding runLine
-returns-3 c = rw (← c .before .before .before .before .before .before .before .before .run .ensures, c .before .before .before .before .before .reply3 .given .1) (c .before .before .refused .ensures)
+returns-3 c = rw (← c .before .before .before .before .before .before .before .before .run-in .ensures, c .before .before .before .before .before .reply3 .given .1) (c .before .before .refused .ensures)
 
 pub steps-line-spec : {M : Type 1} → statement M
 steps-line-spec =
     tie.close
     (tie.spec
-    run-requires
+    run-in-requires
     enum-known-reply
     cast-t17
     slice-aggregate-wrote
