@@ -5,8 +5,12 @@
 //! agrees with the table of followers; a wait changes nothing; the state is in
 //! range; the locks are held by those who should; refusal 8 never comes.
 
-use crate::sheet::Onlooker;
-use crate::tree::*;
+use crate::player::followers::FOLLOWERS;
+use crate::player::numbers::{KEYS, NODES, THREADS};
+use crate::player::onlooker::Onlooker;
+use crate::player::operations::{DELETE, INSERT};
+use crate::player::state::State;
+use crate::player::step::Reply;
 use crate::walks::Walks;
 
 pub const MOST_ROUTES_OF_A_WALK: usize = 42;

@@ -1,7 +1,12 @@
 //! Counts what the maker's schedules reach: phases, branches, refusals.
 
-use crate::sheet::{key_sheet_watched, Onlooker};
-use crate::tree::*;
+use crate::player::keys::count_keys;
+use crate::player::numbers::THREADS;
+use crate::player::onlooker::Onlooker;
+use crate::player::settings::Settings;
+use crate::player::sheet::key_sheet_watched;
+use crate::player::state::{Register, Side, State, Thread};
+use crate::player::step::Reply;
 use crate::walks::Walks;
 
 /// What one schedule reached: (name, times).

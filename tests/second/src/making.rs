@@ -2,9 +2,15 @@
 //! maker plays each line that it writes on a state of its own, so that it can
 //! steer: it sees which thread is in which phase and which base a key leads to.
 
+use crate::player::keys::count_keys;
+use crate::player::nodes::opposite;
+use crate::player::numbers::{KEYS, THREADS};
+use crate::player::onlooker::Nobody;
+use crate::player::operations::{DELETE, INSERT, LOOKUP};
+use crate::player::settings::{Settings, SOURCE_SETTINGS};
+use crate::player::sheet::other_line;
+use crate::player::state::{Register, Side, State};
 use crate::random::Random;
-use crate::sheet::{other_line, settings_line, Nobody};
-use crate::tree::*;
 
 /// One schedule for a seed.
 pub fn schedule(seed: u64) -> Vec<u8> {
@@ -112,13 +118,6 @@ fn good_settings_line(random: &mut Random) -> Vec<u8> {
 fn line_of_settings(s: Settings) -> Vec<u8> {
     format!("R\t{}\t{}\t{}\t{}", s.succ, s.fail, s.min, s.max).into_bytes()
 }
-
-const SOURCE_SETTINGS: Settings = Settings {
-    succ: 1,
-    fail: 250,
-    min: -1000,
-    max: 1000,
-};
 
 fn any_settings(random: &mut Random) -> Settings {
     match random.below(10) {
@@ -369,8 +368,7 @@ impl Maker {
 
     fn first_line(&mut self, settings: Settings) {
         let line = line_of_settings(settings);
-        let mut sheet = Vec::new();
-        self.state = settings_line(&line, &mut sheet).expect("the maker's settings are good");
+        self.state = State::fresh(settings).expect("the maker's settings are good");
         self.out.extend_from_slice(&line);
         self.out.push(b'\n');
     }

@@ -1,6 +1,7 @@
 //! Counts the routes that each thread's walk passes through.
 
-use crate::tree::*;
+use crate::player::numbers::THREADS;
+use crate::player::state::State;
 
 pub struct Walks {
     routes_passed: [usize; THREADS],

@@ -2,8 +2,12 @@
 
 use second_player::check::Checker;
 use second_player::making::schedule;
-use second_player::sheet::{key_sheet, key_sheet_watched};
-use second_player::tree::*;
+use second_player::player::keys::rising;
+use second_player::player::operations::{INSERT, LOOKUP};
+use second_player::player::settings::{Settings, SOURCE_SETTINGS};
+use second_player::player::sheet::{key_sheet, key_sheet_watched};
+use second_player::player::state::State;
+use second_player::player::step::Reply;
 
 /// Blanks stand for tabs; lines are parted by " / ", as document 01 prints them.
 fn tabs(text: &str) -> Vec<u8> {
@@ -25,15 +29,6 @@ fn plays(schedule: &str, sheet: &str) {
     assert_eq!(got, want, "schedule: {schedule}");
 }
 
-fn settings(succ: i32, fail: i32, min: i32, max: i32) -> Settings {
-    Settings {
-        succ,
-        fail,
-        min,
-        max,
-    }
-}
-
 fn steps(state: &mut State, thread: usize, count: usize) -> Reply {
     let mut reply = Reply::GoesOn;
     for _ in 0..count {
@@ -53,7 +48,7 @@ fn ended(answer: u32, commit_number: u32) -> Reply {
 }
 
 fn keys_of(state: &State, node: usize) -> Vec<usize> {
-    (0..KEYS).filter(|&k| state.nodes[node].keys[k]).collect()
+    rising(&state.nodes[node].keys).collect()
 }
 
 const B_START: &str = "R 1 3 -1 2 / B 0 I 5 / S 0 1000 / B 0 I 9 / S 0 1000 / B 0 I 2 / S 0 1000";
@@ -81,7 +76,13 @@ fn example_b_sheet() {
 
 /// The state after B's own steps, by library calls.
 fn state_after_b() -> State {
-    let mut state = State::fresh(settings(1, 3, -1, 2)).unwrap();
+    let settings = Settings {
+        succ: 1,
+        fail: 3,
+        min: -1,
+        max: 2,
+    };
+    let mut state = State::fresh(settings).unwrap();
     for key in [5, 9, 2] {
         state.begin(0, INSERT, key).unwrap();
         steps(&mut state, 0, 1000);
@@ -247,7 +248,7 @@ fn example_i_by_library_calls() {
         (-1000, 2, 25, -1000),
         (-1001, 2, 25, 0),
     ] {
-        let mut state = State::fresh(settings(1, 250, -1000, 1000)).unwrap();
+        let mut state = State::fresh(SOURCE_SETTINGS).unwrap();
         for key in 0..keys {
             state.nodes[0].keys[key] = true;
         }

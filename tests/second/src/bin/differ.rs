@@ -7,7 +7,8 @@
 //! on making a schedule small).
 
 use second_player::making::schedule;
-use second_player::sheet::{key_sheet, lines_of};
+use second_player::player::bytes::lines_of;
+use second_player::player::sheet::key_sheet;
 use std::collections::BTreeMap;
 use std::io::{Read, Write};
 use std::os::unix::process::ExitStatusExt;

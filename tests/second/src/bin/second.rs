@@ -4,7 +4,7 @@
 
 use second_player::check::Checker;
 use second_player::frames::{read_frame, write_frame};
-use second_player::sheet::{key_sheet, key_sheet_watched};
+use second_player::player::sheet::{key_sheet, key_sheet_watched};
 use std::io::{self, BufReader, BufWriter, Read, StdinLock, Write};
 use std::process::exit;
 
