@@ -1,5 +1,6 @@
 //! Counts what the maker's schedules reach: phases, branches, refusals.
 
+use crate::checks::walks::Walks;
 use crate::player::keys::count_keys;
 use crate::player::numbers::THREADS;
 use crate::player::onlooker::Onlooker;
@@ -7,7 +8,6 @@ use crate::player::settings::Settings;
 use crate::player::sheet::key_sheet_watched;
 use crate::player::state::{Register, Side, State, Thread};
 use crate::player::step::Reply;
-use crate::walks::Walks;
 
 /// What one schedule reached: (name, times).
 pub struct Counts {

@@ -4,10 +4,9 @@
 
 pub mod player;
 
-pub mod check;
+pub mod checks;
 pub mod counts;
 pub mod making;
-pub mod walks;
 
 pub mod frames;
 pub mod random;

@@ -2,7 +2,7 @@
 //! `second --many`: the same for a framed stream of schedules.
 //! `second --check [--many]`: plays with checks after each step instead.
 
-use second_player::check::Checker;
+use second_player::checks::Checker;
 use second_player::frames::{read_frame, write_frame};
 use second_player::player::sheet::{key_sheet, key_sheet_watched};
 use std::io::{self, BufReader, BufWriter, Read, StdinLock, Write};
