@@ -6,7 +6,7 @@ pub mod player;
 
 pub mod checks;
 pub mod counts;
-pub mod making;
+pub mod maker;
 
 pub mod frames;
 pub mod random;

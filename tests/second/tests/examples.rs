@@ -1,7 +1,7 @@
 //! The played examples A to J of document 01, and the smaller rules around them.
 
 use second_player::checks::Checker;
-use second_player::making::schedule;
+use second_player::maker::schedule;
 use second_player::player::keys::rising;
 use second_player::player::operations::{INSERT, LOOKUP};
 use second_player::player::settings::{Settings, SOURCE_SETTINGS};

@@ -6,7 +6,7 @@
 //! that PROGRAM may take for one schedule), `--shrink T` (30, the seconds spent
 //! on making a schedule small).
 
-use second_player::making::schedule;
+use second_player::maker::schedule;
 use second_player::player::bytes::lines_of;
 use second_player::player::sheet::key_sheet;
 use std::collections::BTreeMap;

@@ -4,7 +4,7 @@
 
 use second_player::counts::Counts;
 use second_player::frames::write_frame;
-use second_player::making::schedule;
+use second_player::maker::schedule;
 use std::io::{self, BufWriter, Write};
 use std::process::exit;
 
