@@ -4,10 +4,11 @@ use second_player::checks::Checker;
 use second_player::maker::schedule;
 use second_player::player::keys::rising;
 use second_player::player::operations::{INSERT, LOOKUP};
+use second_player::player::records::Begin;
 use second_player::player::settings::{Settings, SOURCE_SETTINGS};
 use second_player::player::sheet::{key_sheet, key_sheet_watched};
 use second_player::player::state::State;
-use second_player::player::step::Reply;
+use second_player::player::step::{Ending, Reply};
 
 /// Blanks stand for tabs; lines are parted by " / ", as document 01 prints them.
 fn tabs(text: &str) -> Vec<u8> {
@@ -29,6 +30,15 @@ fn plays(schedule: &str, sheet: &str) {
     assert_eq!(got, want, "schedule: {schedule}");
 }
 
+fn begin(state: &mut State, thread: usize, operation: u32, key: usize) {
+    let begin = Begin {
+        thread,
+        operation,
+        key,
+    };
+    state.begin(begin).unwrap();
+}
+
 fn steps(state: &mut State, thread: usize, count: usize) -> Reply {
     let mut reply = Reply::GoesOn;
     for _ in 0..count {
@@ -41,10 +51,10 @@ fn steps(state: &mut State, thread: usize, count: usize) -> Reply {
 }
 
 fn ended(answer: u32, commit_number: u32) -> Reply {
-    Reply::Ended {
+    Reply::Ended(Ending {
         answer,
         commit_number,
-    }
+    })
 }
 
 fn keys_of(state: &State, node: usize) -> Vec<usize> {
@@ -84,12 +94,12 @@ fn state_after_b() -> State {
     };
     let mut state = State::fresh(settings).unwrap();
     for key in [5, 9, 2] {
-        state.begin(0, INSERT, key).unwrap();
+        begin(&mut state, 0, INSERT, key);
         steps(&mut state, 0, 1000);
     }
-    state.begin(0, LOOKUP, 5).unwrap();
+    begin(&mut state, 0, LOOKUP, 5);
     steps(&mut state, 0, 2);
-    state.begin(1, INSERT, 7).unwrap();
+    begin(&mut state, 1, INSERT, 7);
     steps(&mut state, 1, 2);
     assert_eq!(state.threads[1].phase, 4);
     steps(&mut state, 1, 1);
@@ -132,10 +142,10 @@ fn example_c() {
 #[test]
 fn example_c_phase_by_phase() {
     let mut state = state_after_b();
-    state.begin(0, LOOKUP, 2).unwrap();
+    begin(&mut state, 0, LOOKUP, 2);
     steps(&mut state, 0, 5);
     assert_eq!(state.nodes[1].statistics, -1);
-    state.begin(0, LOOKUP, 2).unwrap();
+    begin(&mut state, 0, LOOKUP, 2);
     let mut phases = Vec::new();
     while state.step(0).unwrap() == Reply::GoesOn {
         phases.push(state.threads[0].phase);
@@ -252,7 +262,7 @@ fn example_i_by_library_calls() {
         for key in 0..keys {
             state.nodes[0].keys[key] = true;
         }
-        state.begin(0, LOOKUP, 0).unwrap();
+        begin(&mut state, 0, LOOKUP, 0);
         steps(&mut state, 0, 2);
         state.nodes[0].statistics = statistics;
         steps(&mut state, 0, 1);

@@ -5,14 +5,13 @@ use crate::player::keys::{Keys, NO_KEYS};
 use crate::player::numbers::THREADS;
 use crate::player::operations::{DELETE, INSERT};
 use crate::player::state::State;
-use crate::player::step::Reply;
+use crate::player::step::{Ending, Reply};
 
 pub struct PlainSet {
     pub keys: Keys,
     pub commits: u32,
-    /// The answer and the commit number that each thread's operation should end
-    /// with, once it has committed.
-    expected: [Option<(u32, u32)>; THREADS],
+    /// What each thread's operation should end with, once it has committed.
+    expected: [Option<Ending>; THREADS],
 }
 
 impl PlainSet {
@@ -41,22 +40,19 @@ impl PlainSet {
         };
         self.keys[key] = operation == INSERT || (present && operation != DELETE);
         self.commits += 1;
-        self.expected[thread] = Some((answer as u32, self.commits));
+        self.expected[thread] = Some(Ending {
+            answer: answer as u32,
+            commit_number: self.commits,
+        });
     }
 
     pub fn wrong_answer(&mut self, thread: usize, reply: Reply) -> Option<String> {
-        let Reply::Ended {
-            answer,
-            commit_number,
-        } = reply
-        else {
+        let Reply::Ended(ending) = reply else {
             return None;
         };
         let expected = self.expected[thread].take();
-        (expected != Some((answer, commit_number))).then(|| {
-            format!(
-                "thread {thread} ended with answer {answer}, commit {commit_number}; the plain set says {expected:?}"
-            )
+        (expected != Some(ending)).then(|| {
+            format!("thread {thread} ended with {ending:?}; the plain set says {expected:?}")
         })
     }
 }

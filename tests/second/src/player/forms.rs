@@ -3,21 +3,9 @@
 
 use super::bytes::{fields_of, number_of, number_of_min};
 use super::operations::operation_of;
+use super::records::{Begin, Line, Steps};
 use super::refusals::{Refusal, NO_FORM};
 use super::settings::Settings;
-
-/// A line after the first.
-pub enum Line {
-    Begin {
-        thread: usize,
-        operation: u32,
-        key: usize,
-    },
-    Steps {
-        thread: usize,
-        count: u32,
-    },
-}
 
 /// "R succ fail min max: first line only."
 pub fn settings_of(line: &[u8]) -> Option<Settings> {
@@ -44,17 +32,17 @@ pub fn line_of(line: &[u8]) -> Result<Line, Refusal> {
 
 /// "B thread op key, op I, D or L."
 fn begin_of(thread: &[u8], operation: &[u8], key: &[u8]) -> Option<Line> {
-    Some(Line::Begin {
+    Some(Line::Begin(Begin {
         thread: number_of(thread)? as usize,
         operation: operation_of(operation)?,
         key: number_of(key)? as usize,
-    })
+    }))
 }
 
 /// "S thread n."
 fn steps_of(thread: &[u8], count: &[u8]) -> Option<Line> {
-    Some(Line::Steps {
+    Some(Line::Steps(Steps {
         thread: number_of(thread)? as usize,
         count: number_of(count)? as u32,
-    })
+    }))
 }

@@ -5,6 +5,7 @@ pub mod numbers;
 
 pub mod keys;
 pub mod operations;
+pub mod records;
 pub mod settings;
 pub mod state;
 

@@ -4,6 +4,7 @@
 
 use super::numbers::{KEYS, MOST_BEGUN, MOST_SCHEDULE_BYTES, STEP_COUNT, THREADS};
 use super::operations::OPERATIONS;
+use super::records::{Begin, Steps};
 use super::settings::Settings;
 use super::state::State;
 
@@ -44,7 +45,12 @@ pub fn of_settings(settings: Settings) -> Result<(), Refusal> {
 }
 
 /// "begin 7, 1, 3, 4, 5, 11"
-pub fn of_begin(state: &State, thread: usize, operation: u32, key: usize) -> Result<(), Refusal> {
+pub fn of_begin(state: &State, begin: Begin) -> Result<(), Refusal> {
+    let Begin {
+        thread,
+        operation,
+        key,
+    } = begin;
     refuse(operation >= OPERATIONS, NO_FORM)?;
     refuse(thread >= THREADS, THREAD)?;
     refuse(key >= KEYS, KEY)?;
@@ -61,7 +67,8 @@ pub fn of_step(state: &State, thread: usize) -> Result<(), Refusal> {
 
 /// "other line 9, 7, 1, then 3, 4, 10, 5, 6, 11, 8 as they apply": before the first
 /// step of a counted line 3, 10, 6.
-pub fn of_counted_steps(state: &State, thread: usize, count: u32) -> Result<(), Refusal> {
+pub fn of_counted_steps(state: &State, steps: Steps) -> Result<(), Refusal> {
+    let Steps { thread, count } = steps;
     refuse(thread >= THREADS, THREAD)?;
     refuse(!STEP_COUNT.contains(&count), COUNT)?;
     refuse(state.threads[thread].phase == 0, IDLE)

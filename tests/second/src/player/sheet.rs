@@ -1,9 +1,10 @@
 //! "Schedule and key sheet": the line calls and the whole file.
 
 use super::bytes::{lines_of, write_line};
-use super::forms::{line_of, settings_of, Line};
+use super::forms::{line_of, settings_of};
 use super::keys::{rising, Keys};
 use super::onlooker::{Nobody, Onlooker};
+use super::records::Line;
 use super::refusals::{self, Refusal, NO_SETTINGS};
 use super::state::State;
 use super::step::Counted;
@@ -67,17 +68,13 @@ fn accepted_line<O: Onlooker>(
     onlooker: &mut O,
 ) -> Result<(), Refusal> {
     match line_of(line)? {
-        Line::Begin {
-            thread,
-            operation,
-            key,
-        } => {
-            state.begin(thread, operation, key)?;
-            write_begun(thread, sheet);
+        Line::Begin(begin) => {
+            state.begin(begin)?;
+            write_begun(begin.thread, sheet);
         }
-        Line::Steps { thread, count } => {
-            let counted = state.counted_steps(thread, count, onlooker)?;
-            write_counted(thread, counted, sheet);
+        Line::Steps(steps) => {
+            let counted = state.counted_steps(steps, onlooker)?;
+            write_counted(steps.thread, counted, sheet);
         }
     }
     Ok(())
@@ -93,11 +90,10 @@ fn write_counted(thread: usize, counted: Counted, sheet: &mut Vec<u8>) {
     let thread = thread as u32;
     match counted {
         Counted::Stopped { taken, phase } => write_line(sheet, "S", &[thread, taken, phase]),
-        Counted::Ended {
-            taken,
-            answer,
-            commit_number,
-        } => write_line(sheet, "D", &[thread, taken, answer, commit_number]),
+        Counted::Ended { taken, ending } => {
+            let numbers = [thread, taken, ending.answer, ending.commit_number];
+            write_line(sheet, "D", &numbers)
+        }
     }
 }
 
