@@ -5,21 +5,21 @@
 #![no_main]
 #![allow(dead_code)]
 
+#[path = "../second/src/player/mod.rs"]
+mod player;
 #[path = "../second/src/random.rs"]
 mod random;
-#[path = "../second/src/sheet.rs"]
-mod sheet;
-#[path = "../second/src/tree.rs"]
-mod tree;
 
+use player::numbers::PHASES;
+use player::onlooker::Onlooker;
+use player::sheet::key_sheet_watched;
+use player::state::{Phase, State, Thread};
 use random::Random;
-use sheet::{key_sheet_watched, Onlooker};
 use std::ffi::OsStr;
 use std::io::{Read, Write};
 use std::os::unix::process::ExitStatusExt;
 use std::process::{Command, Stdio};
 use std::sync::atomic::{AtomicU8, Ordering};
-use tree::{State, Thread};
 
 // ---- comparing ----------------------------------------------------------
 
@@ -77,8 +77,6 @@ fn played_by(program: &OsStr, schedule: &[u8]) -> (Vec<u8>, Option<i32>) {
 
 // ---- what libFuzzer is shown beside the edges ---------------------------
 
-const PHASES: usize = 26;
-
 /// libFuzzer keeps an input that sets a byte here that none has set before.
 #[link_section = "__libfuzzer_extra_counters"]
 static MET: [AtomicU8; 2 * PHASES * PHASES] = [const { AtomicU8::new(0) }; 2 * PHASES * PHASES];
@@ -87,7 +85,7 @@ static MET: [AtomicU8; 2 * PHASES * PHASES] = [const { AtomicU8::new(0) }; 2 * P
 /// the two have a node in common.
 struct Meetings {
     /// The thread of the last step and its phase before it.
-    last: (usize, u32),
+    last: (usize, Phase),
 }
 
 impl Onlooker for Meetings {

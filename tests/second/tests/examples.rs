@@ -1,9 +1,14 @@
 //! The played examples A to J of document 01, and the smaller rules around them.
 
-use second_player::check::Checker;
-use second_player::making::schedule;
-use second_player::sheet::{key_sheet, key_sheet_watched};
-use second_player::tree::*;
+use second_player::checks::Checker;
+use second_player::maker::schedule;
+use second_player::player::keys::rising;
+use second_player::player::operations::{INSERT, LOOKUP};
+use second_player::player::records::Begin;
+use second_player::player::settings::{Settings, SOURCE_SETTINGS};
+use second_player::player::sheet::{key_sheet, key_sheet_watched};
+use second_player::player::state::State;
+use second_player::player::step::{Ending, Reply};
 
 /// Blanks stand for tabs; lines are parted by " / ", as document 01 prints them.
 fn tabs(text: &str) -> Vec<u8> {
@@ -25,13 +30,13 @@ fn plays(schedule: &str, sheet: &str) {
     assert_eq!(got, want, "schedule: {schedule}");
 }
 
-fn settings(succ: i32, fail: i32, min: i32, max: i32) -> Settings {
-    Settings {
-        succ,
-        fail,
-        min,
-        max,
-    }
+fn begin(state: &mut State, thread: usize, operation: u32, key: usize) {
+    let begin = Begin {
+        thread,
+        operation,
+        key,
+    };
+    state.begin(begin).unwrap();
 }
 
 fn steps(state: &mut State, thread: usize, count: usize) -> Reply {
@@ -46,14 +51,14 @@ fn steps(state: &mut State, thread: usize, count: usize) -> Reply {
 }
 
 fn ended(answer: u32, commit_number: u32) -> Reply {
-    Reply::Ended {
+    Reply::Ended(Ending {
         answer,
         commit_number,
-    }
+    })
 }
 
 fn keys_of(state: &State, node: usize) -> Vec<usize> {
-    (0..KEYS).filter(|&k| state.nodes[node].keys[k]).collect()
+    rising(&state.nodes[node].keys).collect()
 }
 
 const B_START: &str = "R 1 3 -1 2 / B 0 I 5 / S 0 1000 / B 0 I 9 / S 0 1000 / B 0 I 2 / S 0 1000";
@@ -81,14 +86,20 @@ fn example_b_sheet() {
 
 /// The state after B's own steps, by library calls.
 fn state_after_b() -> State {
-    let mut state = State::fresh(settings(1, 3, -1, 2)).unwrap();
+    let settings = Settings {
+        succ: 1,
+        fail: 3,
+        min: -1,
+        max: 2,
+    };
+    let mut state = State::fresh(settings).unwrap();
     for key in [5, 9, 2] {
-        state.begin(0, INSERT, key).unwrap();
+        begin(&mut state, 0, INSERT, key);
         steps(&mut state, 0, 1000);
     }
-    state.begin(0, LOOKUP, 5).unwrap();
+    begin(&mut state, 0, LOOKUP, 5);
     steps(&mut state, 0, 2);
-    state.begin(1, INSERT, 7).unwrap();
+    begin(&mut state, 1, INSERT, 7);
     steps(&mut state, 1, 2);
     assert_eq!(state.threads[1].phase, 4);
     steps(&mut state, 1, 1);
@@ -131,10 +142,10 @@ fn example_c() {
 #[test]
 fn example_c_phase_by_phase() {
     let mut state = state_after_b();
-    state.begin(0, LOOKUP, 2).unwrap();
+    begin(&mut state, 0, LOOKUP, 2);
     steps(&mut state, 0, 5);
     assert_eq!(state.nodes[1].statistics, -1);
-    state.begin(0, LOOKUP, 2).unwrap();
+    begin(&mut state, 0, LOOKUP, 2);
     let mut phases = Vec::new();
     while state.step(0).unwrap() == Reply::GoesOn {
         phases.push(state.threads[0].phase);
@@ -247,11 +258,11 @@ fn example_i_by_library_calls() {
         (-1000, 2, 25, -1000),
         (-1001, 2, 25, 0),
     ] {
-        let mut state = State::fresh(settings(1, 250, -1000, 1000)).unwrap();
+        let mut state = State::fresh(SOURCE_SETTINGS).unwrap();
         for key in 0..keys {
             state.nodes[0].keys[key] = true;
         }
-        state.begin(0, LOOKUP, 0).unwrap();
+        begin(&mut state, 0, LOOKUP, 0);
         steps(&mut state, 0, 2);
         state.nodes[0].statistics = statistics;
         steps(&mut state, 0, 1);

@@ -6,21 +6,18 @@
 //! that PROGRAM may take for one schedule), `--shrink T` (30, the seconds spent
 //! on making a schedule small).
 
-use second_player::making::schedule;
-use second_player::sheet::{key_sheet, lines_of};
+use second_player::differ::running::{watch, Outcome, Place};
+use second_player::differ::shrinking::Shrinker;
+use second_player::differ::telling::tell;
+use second_player::maker::schedule;
+use second_player::player::sheet::key_sheet;
 use std::collections::BTreeMap;
-use std::io::{Read, Write};
-use std::os::unix::process::ExitStatusExt;
-use std::path::{Path, PathBuf};
-use std::process::{exit, Child, Command, Stdio};
+use std::path::Path;
+use std::process::exit;
 use std::sync::atomic::{AtomicBool, AtomicUsize, Ordering};
 use std::sync::Mutex;
-use std::time::{Duration, Instant};
 
-/// More than any sheet needs.
-const MOST_SHEET_BYTES: u64 = 4_000_000;
-/// Schedules up to this long are written to PROGRAM at once: any pipe holds them.
-const SURELY_HELD_BY_A_PIPE: usize = 4096;
+// ---- what is wished -----------------------------------------------------
 
 fn usage() -> ! {
     eprintln!(
@@ -52,9 +49,6 @@ fn wishes() -> Wishes {
         shrink: 30,
     };
     while let Some(word) = arguments.next() {
-        let number = |text: Option<String>| -> u64 {
-            text.and_then(|t| t.parse().ok()).unwrap_or_else(|| usage())
-        };
         match word.as_str() {
             "--from" => wishes.from = number(arguments.next()),
             "--count" => wishes.count = number(arguments.next()) as usize,
@@ -68,6 +62,11 @@ fn wishes() -> Wishes {
         usage();
     }
     wishes
+}
+
+fn number(word: Option<String>) -> u64 {
+    word.and_then(|word| word.parse().ok())
+        .unwrap_or_else(|| usage())
 }
 
 /// PROGRAM is a file, or a command with its arguments parted by blanks.
@@ -101,313 +100,72 @@ impl Wishes {
     }
 }
 
-// ---- running PROGRAM ----------------------------------------------------
+// ---- comparing ----------------------------------------------------------
 
-/// The process that a worker runs now, so that it can be ended if it takes too
-/// long.
-struct Place {
-    running: Mutex<Option<(Instant, Child)>>,
-    too_long: AtomicBool,
+/// What the workers share.
+struct Comparison {
+    wishes: Wishes,
+    next: AtomicUsize,
+    stop: AtomicBool,
+    compared: AtomicUsize,
+    found: Mutex<BTreeMap<usize, Outcome>>,
 }
 
-/// What PROGRAM wrote, and how it ended if it did not end well.
-struct Outcome {
-    sheet: Vec<u8>,
-    trouble: Option<String>,
-}
-
-fn run(program: &[String], schedule: &[u8], place: &Place) -> Outcome {
-    let mut child = Command::new(&program[0])
-        .args(&program[1..])
-        .stdin(Stdio::piped())
-        .stdout(Stdio::piped())
-        .stderr(Stdio::null())
-        .spawn()
-        .unwrap_or_else(|error| {
-            eprintln!("cannot run {}: {error}", program[0]);
-            exit(2);
-        });
-    let mut input = child.stdin.take().unwrap();
-    let output = child.stdout.take().unwrap();
-    place.too_long.store(false, Ordering::SeqCst);
-    *place.running.lock().unwrap() = Some((Instant::now(), child));
-
-    let mut sheet = Vec::new();
-    // PROGRAM may stop reading early; that is its own affair.
-    if schedule.len() <= SURELY_HELD_BY_A_PIPE {
-        let _ = input.write_all(schedule);
-        drop(input);
-        let _ = output.take(MOST_SHEET_BYTES).read_to_end(&mut sheet);
-    } else {
-        std::thread::scope(|scope| {
-            scope.spawn(move || {
-                let _ = input.write_all(schedule);
-            });
-            let _ = output.take(MOST_SHEET_BYTES).read_to_end(&mut sheet);
-        });
-    }
-
-    let (_, mut child) = place.running.lock().unwrap().take().unwrap();
-    if sheet.len() as u64 == MOST_SHEET_BYTES {
-        let _ = child.kill();
-    }
-    let status = child
-        .wait()
-        .expect("a process of one's own can be waited for");
-    let trouble = if place.too_long.load(Ordering::SeqCst) {
-        Some("it took too long and was ended".to_string())
-    } else {
-        status
-            .signal()
-            .map(|signal| format!("it was ended by signal {signal}"))
-    };
-    Outcome { sheet, trouble }
-}
-
-/// Ends a worker's process when it takes too long.
-fn watch(places: &[Place], seconds: u64, finished: &AtomicBool) {
-    while !finished.load(Ordering::SeqCst) {
-        std::thread::sleep(Duration::from_millis(50));
-        for place in places {
-            if let Some((since, child)) = place.running.lock().unwrap().as_mut() {
-                if since.elapsed() > Duration::from_secs(seconds) {
-                    place.too_long.store(true, Ordering::SeqCst);
-                    let _ = child.kill();
-                }
+impl Comparison {
+    /// Compares one schedule after the other, until there are no more or one of
+    /// the workers has found a difference.
+    fn work(&self, place: &Place) {
+        while !self.stop.load(Ordering::SeqCst) {
+            let i = self.next.fetch_add(1, Ordering::SeqCst);
+            if i >= self.wishes.how_many() {
+                break;
             }
-        }
-    }
-}
-
-fn agrees(outcome: &Outcome, expected: &[u8]) -> bool {
-    outcome.trouble.is_none() && outcome.sheet == expected
-}
-
-// ---- telling a difference -----------------------------------------------
-
-/// The first sheet line, from 0, in which the two differ; a missing line and a
-/// missing final newline count as well.
-fn first_difference(one: &[u8], other: &[u8]) -> usize {
-    let mut line = 0;
-    let mut i = 0;
-    while i < one.len() && i < other.len() && one[i] == other[i] {
-        if one[i] == b'\n' {
-            line += 1;
-        }
-        i += 1;
-    }
-    line
-}
-
-/// A line with its newline if it has one, in printable letters.
-fn sheet_line(sheet: &[u8], number: usize) -> String {
-    match pieces_of(sheet).get(number) {
-        None => "(no such line)".to_string(),
-        Some(piece) if piece.ends_with(b"\n") => printable(&piece[..piece.len() - 1]),
-        Some(piece) => format!("{} (without its newline)", printable(piece)),
-    }
-}
-
-fn printable(bytes: &[u8]) -> String {
-    if bytes.len() > 300 {
-        let start = bytes[..300].escape_ascii();
-        return format!("{start}... ({} bytes)", bytes.len());
-    }
-    bytes.escape_ascii().to_string()
-}
-
-/// The lines with their newlines.
-fn pieces_of(bytes: &[u8]) -> Vec<&[u8]> {
-    bytes.split_inclusive(|&c| c == b'\n').collect()
-}
-
-fn tell(seed: u64, schedule: &[u8], outcome: &Outcome, small: &[u8], runs: usize) {
-    let expected = key_sheet(schedule);
-    println!("seed {seed}: the sheets differ");
-    if let Some(trouble) = &outcome.trouble {
-        println!("  the program: {trouble}");
-    }
-    if outcome.sheet != expected {
-        let at = first_difference(&outcome.sheet, &expected);
-        println!("  first at sheet line {}", at + 1);
-        println!("  program: {}", sheet_line(&outcome.sheet, at));
-        println!("  second:  {}", sheet_line(&expected, at));
-        println!("  schedule line {}", schedule_line(schedule, &expected, at));
-    }
-    let lines = pieces_of(small).len();
-    println!(
-        "a small schedule that still differs ({lines} lines, {} bytes, found in {runs} runs):",
-        small.len()
-    );
-    for line in pieces_of(small).iter().take(200) {
-        println!("  {}", printable(line));
-    }
-    if lines > 200 {
-        println!("  ... and so on");
-    }
-    if let Some(folder) = folder_for_differences() {
-        let whole_file = folder.join(format!("seed-{seed}.schedule"));
-        let small_file = folder.join(format!("seed-{seed}.small"));
-        let written = std::fs::create_dir_all(&folder)
-            .and_then(|_| std::fs::write(&whole_file, schedule))
-            .and_then(|_| std::fs::write(&small_file, small));
-        if written.is_ok() {
-            println!("kept: {}", whole_file.display());
-            println!("kept: {}", small_file.display());
-        }
-    }
-}
-
-/// The schedule line that a sheet line, from 0, belongs to.
-fn schedule_line(schedule: &[u8], expected: &[u8], at: usize) -> String {
-    if expected == b"X\t12\n" {
-        return format!("none: the schedule has {} bytes", schedule.len());
-    }
-    match lines_of(schedule).get(at) {
-        Some(line) => format!("{}: {}", at + 1, printable(line)),
-        None => "none: it is the line of the end".to_string(),
-    }
-}
-
-/// Beside the folder of the build, under the repository's target folder.
-fn folder_for_differences() -> Option<PathBuf> {
-    let here = std::env::current_exe().ok()?;
-    Some(here.parent()?.parent()?.join("differences"))
-}
-
-// ---- making a schedule small --------------------------------------------
-
-struct Shrinker<'a> {
-    program: &'a [String],
-    place: &'a Place,
-    runs: usize,
-    until: Instant,
-}
-
-impl Shrinker<'_> {
-    fn differs(&mut self, schedule: &[u8]) -> bool {
-        if Instant::now() > self.until {
-            return false;
-        }
-        self.runs += 1;
-        let outcome = run(self.program, schedule, self.place);
-        !agrees(&outcome, &key_sheet(schedule))
-    }
-
-    fn small(&mut self, schedule: &[u8], outcome: &Outcome) -> Vec<u8> {
-        let mut best = schedule.to_vec();
-        // Nothing after the line of the first difference is needed, mostly.
-        let at = first_difference(&outcome.sheet, &key_sheet(schedule));
-        let pieces = pieces_of(schedule);
-        if at + 1 < pieces.len() {
-            let start = pieces[..at + 1].concat();
-            if self.differs(&start) {
-                best = start;
+            let schedule = schedule(self.wishes.seed(i));
+            let outcome = place.run(&self.wishes.program, &schedule);
+            if !outcome.agrees(&key_sheet(&schedule)) {
+                self.found.lock().unwrap().insert(i, outcome);
+                self.stop.store(true, Ordering::SeqCst);
             }
-        }
-        // Drop lines greedily, many at a time first.
-        let mut lines = pieces_of(&best);
-        self.drop_parts(&mut lines, |parts| parts.concat());
-        // Then bytes of the lines that are still long.
-        let mut lines: Vec<Vec<u8>> = lines.iter().map(|line| line.to_vec()).collect();
-        for i in 0..lines.len() {
-            if lines[i].len() > 40 {
-                let mut bytes = lines[i].clone();
-                let before = lines[..i].concat();
-                let after = lines[i + 1..].concat();
-                self.drop_parts(&mut bytes, |parts| [&before, parts, &after].concat());
-                lines[i] = bytes;
-            }
-        }
-        lines.concat()
-    }
-
-    fn drop_parts<T: Clone>(&mut self, parts: &mut Vec<T>, whole: impl Fn(&[T]) -> Vec<u8>) {
-        let mut size = (parts.len() / 2).max(1);
-        loop {
-            let mut dropped = false;
-            // From the back, where less depends on a line.
-            let mut end = parts.len();
-            while end > 0 {
-                let start = end.saturating_sub(size);
-                let mut fewer = parts[..start].to_vec();
-                fewer.extend_from_slice(&parts[end..]);
-                if self.differs(&whole(&fewer)) {
-                    *parts = fewer;
-                    dropped = true;
-                }
-                end = start;
-            }
-            if Instant::now() > self.until {
-                return;
-            }
-            if size > 1 {
-                size /= 2;
-            } else if !dropped {
-                return;
-            }
+            self.compared.fetch_add(1, Ordering::SeqCst);
         }
     }
-}
 
-// ---- all of it ----------------------------------------------------------
-
-fn main() {
-    let wishes = wishes();
-    let places: Vec<Place> = (0..wishes.jobs)
-        .map(|_| Place {
-            running: Mutex::new(None),
-            too_long: AtomicBool::new(false),
-        })
-        .collect();
-    let next = AtomicUsize::new(0);
-    let stop = AtomicBool::new(false);
-    let finished = AtomicBool::new(false);
-    let compared = AtomicUsize::new(0);
-    let found: Mutex<BTreeMap<usize, Outcome>> = Mutex::new(BTreeMap::new());
-
-    std::thread::scope(|scope| {
-        scope.spawn(|| watch(&places, wishes.seconds, &finished));
-        let mut workers = Vec::new();
-        for place in &places {
-            workers.push(scope.spawn(|| {
-                while !stop.load(Ordering::SeqCst) {
-                    let i = next.fetch_add(1, Ordering::SeqCst);
-                    if i >= wishes.how_many() {
-                        break;
-                    }
-                    let schedule = schedule(wishes.seed(i));
-                    let outcome = run(&wishes.program, &schedule, place);
-                    if !agrees(&outcome, &key_sheet(&schedule)) {
-                        found.lock().unwrap().insert(i, outcome);
-                        stop.store(true, Ordering::SeqCst);
-                    }
-                    compared.fetch_add(1, Ordering::SeqCst);
-                }
-            }));
-        }
-        for worker in workers {
-            worker.join().unwrap();
-        }
-        // Of several found at once the first counts.
-        let found = found.lock().unwrap();
+    /// Of several found at once the first counts.
+    fn tell_first(&self, place: &Place) {
+        let found = self.found.lock().unwrap();
         if let Some((&i, outcome)) = found.iter().next() {
-            let seed = wishes.seed(i);
+            let seed = self.wishes.seed(i);
             let schedule = schedule(seed);
-            let mut shrinker = Shrinker {
-                program: &wishes.program,
-                place: &places[0],
-                runs: 0,
-                until: Instant::now() + Duration::from_secs(wishes.shrink),
-            };
+            let mut shrinker = Shrinker::new(&self.wishes.program, place, self.wishes.shrink);
             let small = shrinker.small(&schedule, outcome);
             tell(seed, &schedule, outcome, &small, shrinker.runs);
         }
+    }
+}
+
+fn main() {
+    let comparison = Comparison {
+        wishes: wishes(),
+        next: AtomicUsize::new(0),
+        stop: AtomicBool::new(false),
+        compared: AtomicUsize::new(0),
+        found: Mutex::new(BTreeMap::new()),
+    };
+    let places: Vec<Place> = (0..comparison.wishes.jobs).map(|_| Place::new()).collect();
+    let finished = AtomicBool::new(false);
+    std::thread::scope(|scope| {
+        scope.spawn(|| watch(&places, comparison.wishes.seconds, &finished));
+        let comparison = &comparison;
+        let work = |place| scope.spawn(move || comparison.work(place));
+        let workers: Vec<_> = places.iter().map(work).collect();
+        for worker in workers {
+            worker.join().unwrap();
+        }
+        comparison.tell_first(&places[0]);
         finished.store(true, Ordering::SeqCst);
     });
-
-    let compared = compared.load(Ordering::SeqCst);
-    let differences = found.lock().unwrap().len();
+    let compared = comparison.compared.into_inner();
+    let differences = comparison.found.into_inner().unwrap().len();
     if differences > 0 {
         println!("{compared} schedules, {differences} differences; stopped at the first");
         exit(1);

@@ -4,7 +4,7 @@
 
 use second_player::counts::Counts;
 use second_player::frames::write_frame;
-use second_player::making::schedule;
+use second_player::maker::schedule;
 use std::io::{self, BufWriter, Write};
 use std::process::exit;
 
@@ -12,9 +12,7 @@ fn main() -> io::Result<()> {
     let arguments: Vec<String> = std::env::args().skip(1).collect();
     let words: Vec<&str> = arguments.iter().map(|a| a.as_str()).collect();
     match words[..] {
-        [seed] if seed.parse::<u64>().is_ok() => io::stdout()
-            .lock()
-            .write_all(&schedule(seed.parse().unwrap())),
+        [seed] => one(number(seed)),
         ["--many", from, count] => many(number(from), number(count)),
         ["--counts", from, count] => counts(number(from), number(count)),
         _ => usage(),
@@ -28,6 +26,10 @@ fn usage() -> ! {
 
 fn number(word: &str) -> u64 {
     word.parse().unwrap_or_else(|_| usage())
+}
+
+fn one(seed: u64) -> io::Result<()> {
+    io::stdout().lock().write_all(&schedule(seed))
 }
 
 fn many(from: u64, count: u64) -> io::Result<()> {
@@ -44,26 +46,6 @@ fn counts(from: u64, count: u64) -> io::Result<()> {
         counts.play(&schedule(seed));
     }
     let mut output = BufWriter::new(io::stdout().lock());
-    writeln!(
-        output,
-        "{} schedules from seed {}, {} bytes, {} steps, at most {} routes in a walk",
-        counts.played, from, counts.total_bytes, counts.total_steps, counts.walks.most_routes
-    )?;
-    writeln!(output)?;
-    writeln!(output, "| reached | schedules | 1 in | times |")?;
-    writeln!(output, "|---|---:|---:|---:|")?;
-    for i in 0..counts.names.len() {
-        let schedules = counts.schedules[i];
-        let one_in = if schedules == 0 {
-            "never".to_string()
-        } else {
-            format!("{:.1}", counts.played as f64 / schedules as f64)
-        };
-        writeln!(
-            output,
-            "| {} | {} | {} | {} |",
-            counts.names[i], schedules, one_in, counts.times[i]
-        )?;
-    }
+    counts.write(from, &mut output)?;
     output.flush()
 }

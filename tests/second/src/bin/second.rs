@@ -2,9 +2,9 @@
 //! `second --many`: the same for a framed stream of schedules.
 //! `second --check [--many]`: plays with checks after each step instead.
 
-use second_player::check::Checker;
+use second_player::checks::Checker;
 use second_player::frames::{read_frame, write_frame};
-use second_player::sheet::{key_sheet, key_sheet_watched};
+use second_player::player::sheet::{key_sheet, key_sheet_watched};
 use std::io::{self, BufReader, BufWriter, Read, StdinLock, Write};
 use std::process::exit;
 
@@ -46,6 +46,7 @@ fn many() -> io::Result<()> {
     output.flush()
 }
 
+#[derive(Default)]
 struct Totals {
     schedules: u64,
     steps: u64,
@@ -78,17 +79,8 @@ fn report(totals: &Totals) {
     }
 }
 
-fn none_yet() -> Totals {
-    Totals {
-        schedules: 0,
-        steps: 0,
-        most_routes: 0,
-        failed: 0,
-    }
-}
-
 fn check_one() -> io::Result<()> {
-    let mut totals = none_yet();
+    let mut totals = Totals::default();
     check(&whole_input()?, &mut totals);
     report(&totals);
     Ok(())
@@ -96,7 +88,7 @@ fn check_one() -> io::Result<()> {
 
 fn check_many() -> io::Result<()> {
     let mut input = framed_input();
-    let mut totals = none_yet();
+    let mut totals = Totals::default();
     while let Some(schedule) = read_frame(&mut input)? {
         check(&schedule, &mut totals);
     }
