@@ -39,7 +39,7 @@ calls-whole s [] x = x
 calls-whole s (begins t o k ∷ cs) x = calls-whole (afterMove s (begins t o k)) cs (begin-whole s t o k x)
 calls-whole s (steps t ∷ cs) x = calls-whole (afterMove s (steps t)) cs (step-whole s t x)
 
-calls-in-range : (s : State) (cs : List Move) → inRange s ≡ true → inRange (afterMoves s cs) ≡ true
+pub calls-in-range : (s : State) (cs : List Move) → inRange s ≡ true → inRange (afterMoves s cs) ≡ true
 unfolding afterMoves afterMove
 calls-in-range s [] x = x
 calls-in-range s (begins t o k ∷ cs) x = calls-in-range (afterMove s (begins t o k)) cs (begin-in-range s t o k x)
