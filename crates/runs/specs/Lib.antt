@@ -5,3 +5,4 @@ pub mod Events
 pub mod Holders
 pub mod Demand
 pub mod Instance
+pub mod Counted

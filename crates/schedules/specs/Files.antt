@@ -19,8 +19,8 @@ use Rattle.runs.specs.Demand.{Demand3}
 use Rattle.states.specs.Tests.{pick}
 use Rattle.order.specs.Invariant.{Invariant, fresh-kept}
 use Rattle.order.specs.Refusal.{list-not-8, list-keys}
-use Rattle.text.specs.Text.{newline, lines, sheetLine}
-use Rattle.text.specs.Writing.{OneLine, sheet-line-one, lines-first}
+use Rattle.text.specs.Text.{newline, lines, sheetLine, OneLine}
+use Rattle.text.specs.Writing.{sheet-line-one, lines-first}
 use Rattle.forms.specs.Form.{firstForm, lineForm, first-in-range}
 use Rattle.forms.specs.declared.First as First
 use Rattle.sheet.specs.Sheet.{refusal, playForm, endText, endForm, playLines, playFirst, playAll, sheetOf}

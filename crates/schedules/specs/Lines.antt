@@ -13,8 +13,8 @@ use Rattle.rules.specs.declared.state.State.{State}
 use Rattle.rules.specs.declared.answer.BeginReply as BeginReply
 use Rattle.rules.specs.declared.answer.RunReply as RunReply
 use Rattle.rules.specs.declared.answer.ListReply as ListReply
-use Rattle.text.specs.Text.{newline, sheetLine, keysLine}
-use Rattle.text.specs.Writing.{OneLine, sheet-line-one, keys-line-one, line-same}
+use Rattle.text.specs.Text.{newline, sheetLine, keysLine, OneLine}
+use Rattle.text.specs.Writing.{sheet-line-one, keys-line-one, line-same}
 use Rattle.forms.specs.declared.Line as Line
 use Rattle.sheet.specs.Sheet.{refusal, beginLine, runLine, playForm, endText, endForm}
 

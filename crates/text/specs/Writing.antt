@@ -12,7 +12,7 @@ use lib.Dec.{ltb, eqb}
 use lib.ListN.{length, getD, drop, set, length-append}
 use lib.Seq.{sets, drop-cons, set-set, set-comm}
 use Rattle.keys.specs.Keys.{has, rising}
-use Rattle.text.specs.Text.{tab, newline, minus, onto, lines, decimalOf, decimal, tabbed, sheetLine, commas, keyText, keysText, keysLine, Wrote}
+use Rattle.text.specs.Text.{tab, newline, minus, onto, lines, decimalOf, decimal, tabbed, sheetLine, commas, keyText, keysText, Wrote, keysLine, Unbroken, OneLine}
 
 -- ---- joined writes
 
@@ -133,17 +133,6 @@ keys-none [] w h = record { next = refl; bytes = rw (w .bytes, add-one) }
 keys-none (n ∷ ns) w h = absurd (omega (arith, w .next))
 
 -- ---- lines
-
--- no byte is a newline
-abbrev pub Unbroken : List ℕ → Type 0
-Unbroken [] = Unit {0}
-Unbroken (b ∷ bs) = (eqb b newline ≡ false) × Unbroken bs
-
--- one line with its newline; `bare` is the line without it
-pub record OneLine (l : List ℕ) : Type 0 where
-  pub bare : List ℕ
-  pub unbroken : Unbroken bare
-  pub whole : l ≡ bare ++ (newline ∷ [])
 
 unbroken-both : (a b : List ℕ) → Unbroken a → Unbroken b → Unbroken (a ++ b)
 unbroken-both [] b x y = y
