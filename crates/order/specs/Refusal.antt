@@ -1,5 +1,5 @@
 -- "Refusal 8 never occurs in a state reached from fresh": not at a step, not in counted steps, not in a key list.
-use mathlib.Core.Bool.{not, true≢false}
+use mathlib.Core.Bool.{true, not, true≢false}
 use mathlib.Core.Path.{_≡_, sym, _∙_}
 use Prim.Native.Nat.{ℕ, zero, suc, _≤_}
 use native.Mathlib.Omega.{arith}
@@ -16,6 +16,7 @@ use Rattle.rules.specs.declared.answer.Step.{Step}
 use Rattle.rules.specs.declared.answer.StepReply as StepReply
 use Rattle.rules.specs.declared.answer.Run.{Run}
 use Rattle.rules.specs.declared.answer.ListReply.{ListReply}
+use Rattle.rules.specs.declared.answer.ListReply.the-variants.{Keys}
 use Rattle.states.specs.Tests.{pick-by, pick}
 use Rattle.states.specs.Calls.{steps-tests, run-tests}
 use Rattle.order.specs.Invariant.{Invariant, after-kept}
@@ -61,3 +62,8 @@ list-not-8 {s} i =
     let Q : ListReply → Type 0 = λ b. listNumber b ≡ 8 → ⊥ in
     pick-by Q (not (inRange s)) (λ a e. omega arith) λ r.
     pick-by Q (reached s .twice) (λ a e. true≢false (sym a ∙ reached-once i)) λ b e. omega arith
+
+-- in range it is not refused at all
+pub list-keys : {s : State} → Invariant s → inRange s ≡ true → keyListOf s ≡ Keys (reached s .keys)
+unfolding keyListOf
+list-keys i r = rw (r, reached-once i)

@@ -23,12 +23,12 @@ use Rattle.plain.specs.Listed.{retiredIn, retired, plain-keys}
 use Rattle.plain.specs.Runs.{plainAfter, run-plain}
 use Rattle.plain.specs.Log.{run-log}
 
--- calls keep a state in range
-calls-in-range : (s : State) (cs : List Move) → inRange s ≡ true → inRange (afterMoves s cs) ≡ true
+-- moves keep a state in range
+pub moves-in-range : (s : State) (cs : List Move) → inRange s ≡ true → inRange (afterMoves s cs) ≡ true
 unfolding afterMoves afterMove
-calls-in-range s [] x = x
-calls-in-range s (begins t o k ∷ cs) x = calls-in-range (afterMove s (begins t o k)) cs (begin-in-range s t o k x)
-calls-in-range s (steps t ∷ cs) x = calls-in-range (afterMove s (steps t)) cs (step-in-range s t x)
+moves-in-range s [] x = x
+moves-in-range s (begins t o k ∷ cs) x = moves-in-range (afterMove s (begins t o k)) cs (begin-in-range s t o k x)
+moves-in-range s (steps t ∷ cs) x = moves-in-range (afterMove s (steps t)) cs (step-in-range s t x)
 
 -- no keys are retired
 none-retired : (s : State) (j : ℕ) → Quiet s → (n : ℕ) → n ≤ 8 → retiredIn s n j ≡ false
@@ -43,7 +43,7 @@ unfolding keyListOf
 run-quiet c cs r q =
     record {
       keys = reached s .keys;
-      accepted = rw (calls-in-range (fresh c) cs (fresh-in-range c r), reached-once (x .inv));
+      accepted = rw (moves-in-range (fresh c) cs (fresh-in-range c r), reached-once (x .inv));
       exactly = agrees;
       rising = list-tied (reached s .keys) p agrees;
     }

@@ -7,6 +7,7 @@ pub mod Events
 pub mod Holders
 pub mod Demand
 pub mod Instance
+pub mod Counted
 pub mod Counts
 pub mod Unfit
 pub mod Walks

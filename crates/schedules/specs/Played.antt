@@ -1,7 +1,7 @@
 -- A schedule is a run: its begin lines are begins, its step lines counted steps. So demand 3 holds of it.
 use mathlib.Core.Bool.{true, not}
-use mathlib.Core.List.{List, [], _∷_, _++_, append-assoc}
-use mathlib.Core.Path.{_≡_, refl, sym, ap, _∙_}
+use mathlib.Core.List.{List, [], _∷_, _++_, append-assoc, flatten}
+use mathlib.Core.Path.{_≡_, refl, sym, ap, _∙_, subst}
 use Prim.Native.Nat.{ℕ}
 use native.Mathlib.Omega.{arith}
 use lib.Dec.{ltb, leb, eqb}
@@ -23,9 +23,11 @@ use Rattle.runs.specs.Events.{eventsOf}
 use Rattle.runs.specs.Holders.{Quiet}
 use Rattle.runs.specs.Demand.{Demand3}
 use Rattle.states.specs.Tests.{pick}
+use Rattle.states.specs.Kept.{fresh-in-range}
 use Rattle.order.specs.Refusal.{run-not-8}
 use Rattle.order.specs.Invariant.{Invariant, fresh-kept}
-use Rattle.plain.specs.CountedSteps.{Last, run-replies, calls-kept}
+use Rattle.plain.specs.Quiet.{moves-in-range}
+use Rattle.plain.specs.CountedSteps.{Last, run-replies, calls-kept, calls-are-moves}
 use Rattle.plain.specs.Demand.{demand3}
 use Rattle.forms.specs.Form.{lineForm}
 use Rattle.forms.specs.declared.Line as Line
@@ -68,15 +70,19 @@ pub schedule-demand3 : (c : Settings) (ls : List (List ℕ))
     (logOf (fresh c) (movesOf (fresh c) (callsOf ls)))
 schedule-demand3 c ls = rw (lines-are-calls (fresh c) ls) (demand3 c (callsOf ls))
 
--- the sheet lines of the lines of a schedule, without `E`
-unfoldable pub linesSheet : State → List (List ℕ) → List ℕ
-linesSheet s [] = []
-linesSheet s (l ∷ ls) = playForm s (lineForm l) .sheet ++ linesSheet (playForm s (lineForm l) .state) ls
+-- the sheet lines of the lines of a schedule, one for each, without `E`
+unfoldable pub sheetLines : State → List (List ℕ) → List (List ℕ)
+sheetLines s [] = []
+sheetLines s (l ∷ ls) = playForm s (lineForm l) .sheet ∷ sheetLines (playForm s (lineForm l) .state) ls
+
+-- their bytes
+abbrev pub linesSheet : State → List (List ℕ) → List ℕ
+linesSheet s ls = flatten (sheetLines s ls)
 
 -- `E` is that of the state after the lines
-sheet-ends : (s : State) (ls : List (List ℕ))
+pub sheet-ends : (s : State) (ls : List (List ℕ))
     → playLines s ls ≡ linesSheet s ls ++ endForm (afterLines s ls) (keyListOf (afterLines s ls)) .sheet
-unfolding playLines linesSheet afterLines
+unfolding playLines sheetLines flatten afterLines
 sheet-ends s [] = refl
 sheet-ends s (l ∷ ls) =
     ap (λ (x : List ℕ). playForm s (lineForm l) .sheet ++ x) (sheet-ends (playForm s (lineForm l) .state) ls)
@@ -116,7 +122,7 @@ run-number t s (RunReply.the-variants.Stops n p) = refl
 run-number t s (RunReply.the-variants.Ends n a c) = refl
 run-number t s (RunReply.the-variants.Refused n) = refl
 
-form-not-8 : {s : State} → Invariant s → (f : Line.Line) → playForm s f .number ≡ 8 → ⊥
+pub form-not-8 : {s : State} → Invariant s → (f : Line.Line) → playForm s f .number ≡ 8 → ⊥
 unfolding playForm
 form-not-8 {s} i (Line.the-variants.Begin t o k) e =
     begin-not-8 s t o k (sym (begin-number t (beginOf s t o k .state) (beginOf s t o k .reply)) ∙ e)
@@ -124,9 +130,20 @@ form-not-8 {s} i (Line.the-variants.Steps t n) e =
     run-not-8 i t n (sym (run-number t (runOf s t n .state) (runOf s t n .reply)) ∙ e)
 form-not-8 i Line.the-variants.Slip e = omega arith
 
--- the invariant holds after the lines of any schedule
-lines-kept : (c : Settings) (ls : List (List ℕ)) → Invariant (afterLines (fresh c) ls)
+-- a line keeps the invariant
+pub line-kept : {s : State} → Invariant s → (f : Line.Line) → Invariant (playForm s f .state)
+unfolding afterCalls
+line-kept {s} i f = subst Invariant (line-is-call s f []) (calls-kept i (callOf f ++ []))
+
+-- it holds after the lines of any schedule
+pub lines-kept : (c : Settings) (ls : List (List ℕ)) → Invariant (afterLines (fresh c) ls)
 lines-kept c ls = rw (lines-are-calls (fresh c) ls) (calls-kept (fresh-kept c) (callsOf ls))
+
+-- and they leave a state in range
+pub lines-in-range : (c : Settings) (ls : List (List ℕ)) → settingsInRange c ≡ true → inRange (afterLines (fresh c) ls) ≡ true
+lines-in-range c ls r =
+    rw (lines-are-calls (fresh c) ls, calls-are-moves (fresh-kept c) (callsOf ls))
+    (moves-in-range (fresh c) (movesOf (fresh c) (callsOf ls)) (fresh-in-range c r))
 
 -- no line of a schedule is refused with 8
 pub line-not-8 : (c : Settings) (ls : List (List ℕ)) (l : List ℕ) → playForm (afterLines (fresh c) ls) (lineForm l) .number ≡ 8 → ⊥

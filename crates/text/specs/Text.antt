@@ -1,5 +1,5 @@
 -- Bytes of schedules and sheets: numbers, fields, lines.
-use mathlib.Core.Bool.{Bool, true, cond, not, _&&_, _||_}
+use mathlib.Core.Bool.{Bool, true, false, cond, not, _&&_, _||_}
 use mathlib.Core.List.{List, [], _∷_, _++_}
 use mathlib.Core.Path.{_≡_}
 use Prim.Native.Nat.{ℕ, zero, suc, _+_, _-_, _*_, _/_, _%_}
@@ -124,3 +124,14 @@ fitted most room line = cond (ltb room most) [] line
 -- a sheet line that ends in keys
 unfoldable pub keysLine : ℕ → List ℕ → List ℕ → List ℕ
 keysLine letter ns ks = letter ∷ (tabbed ns ++ (tab ∷ (keysText ks ++ (newline ∷ []))))
+
+-- no byte is a newline
+abbrev pub Unbroken : List ℕ → Type 0
+Unbroken [] = Unit {0}
+Unbroken (b ∷ bs) = (eqb b newline ≡ false) × Unbroken bs
+
+-- one line with its newline; `bare` is the line without it
+pub record OneLine (l : List ℕ) : Type 0 where
+  pub bare : List ℕ
+  pub unbroken : Unbroken bare
+  pub whole : l ≡ bare ++ (newline ∷ [])

@@ -1,17 +1,18 @@
--- Laws of writing: how writes join, and the lengths of what is written.
+-- Laws of writing: how writes join, what is written of a number, how long a sheet line is, and that it is one line.
 use mathlib.Core.Bool.{Bool, true, false, cond}
-use mathlib.Core.List.{List, [], _∷_, _++_, append-assoc}
+use mathlib.Core.List.{List, [], _∷_, _++_, append-assoc, append-cancel-left, append-cancel-right}
 use mathlib.Core.Path.{_≡_, refl, sym, ap, _∙_}
 use Prim.Native.Nat.{ℕ, zero, suc, _+_, _-_, _*_, _/_, _%_, _≤_, _<_, zero-le}
+use native.Mathlib.Decide.{decLt}
 use native.Mathlib.Nat.{add-zero}
 use native.Mathlib.Numerals.{add-one}
 use native.Mathlib.Omega.{arith}
-use borrow.Author.Tests.{lt-ltb, le-ltb}
-use lib.Dec.{ltb}
+use borrow.Author.Tests.{lt-ltb, le-ltb, ne-eqb}
+use lib.Dec.{ltb, eqb}
 use lib.ListN.{length, getD, take, drop, set, length-append, length-drop}
 use lib.Seq.{sets, sets-eq, drop-cons, drop-drop, take-append-seam, set-set, set-comm}
 use Rattle.keys.specs.Keys.{has, rising, listOf}
-use Rattle.text.specs.Text.{tab, minus, decimalOf, decimal, tabbed, sheetLine, commas, keyText, keysText, keysLine, Wrote}
+use Rattle.text.specs.Text.{tab, newline, minus, onto, lines, decimalOf, decimal, tabbed, sheetLine, commas, keyText, keysText, Wrote, keysLine, Unbroken, OneLine}
 
 -- ---- joined writes
 
@@ -69,6 +70,38 @@ decimal-last (suc d) n h l = let e : suc d - 1 ≡ d = omega arith in rw (le-ltb
 pub decimal-key : (k : ℕ) → k < 64 → decimalOf 2 k ≡ decimal k
 unfolding decimal decimalOf
 decimal-key k h = simp (lt-ltb (k / 10) 10 (omega arith))
+
+-- a number has a digit at least
+decimal-some : (d n : ℕ) → 0 < d → 1 ≤ length (decimalOf d n)
+decimal-some d n h = go (decLt n 10)
+  where
+    go : Dec (n < 10) → 1 ≤ length (decimalOf d n)
+    go (yes l) = rw (decimal-one d n h l) (omega arith)
+    go (no l) =
+        rw (decimal-last d n h (omega arith)) (omega (arith, length-append (decimalOf (d - 1) (n / 10)) ((48 + n % 10) ∷ [])))
+
+-- a number of one digit is written as no other number is
+decimal-same : (n m : ℕ) → m < 10 → decimal n ≡ decimal m → n ≡ m
+unfolding decimal
+decimal-same n m h e = go (decLt n 10) (e ∙ decimal-one 7 m (omega arith) h)
+  where
+    go : Dec (n < 10) → decimalOf 7 n ≡ (48 + m) ∷ [] → n ≡ m
+    go (yes l) e = omega (arith, ap (λ (x : List ℕ). getD x 0 0) (sym (decimal-one 7 n (omega arith) l) ∙ e))
+    go (no l) e =
+        absurd (omega (
+          arith,
+          ap length (sym (decimal-last 7 n (omega arith) (omega arith)) ∙ e),
+          length-append (decimalOf 6 (n / 10)) ((48 + n % 10) ∷ []),
+          decimal-some 6 (n / 10) (omega arith),
+        ))
+
+-- and so is a sheet line with this number alone
+pub line-same : (letter n m : ℕ) → m < 10 → sheetLine letter (n ∷ []) ≡ sheetLine letter (m ∷ []) → n ≡ m
+unfolding sheetLine tabbed
+line-same letter n m h e =
+    let bare = append-cancel-right (letter ∷ tab ∷ (decimal n ++ [])) (letter ∷ tab ∷ (decimal m ++ [])) (newline ∷ []) e in
+    decimal-same n m h
+    (append-cancel-right (decimal n) (decimal m) [] (append-cancel-left (letter ∷ tab ∷ []) (decimal n ++ []) (decimal m ++ []) bare))
 
 -- by the number at i
 pub tabbed-at : (l : List ℕ) (i : ℕ) → i < length l → tabbed (drop i l) ≡ (tab ∷ decimal (getD l i 0)) ++ tabbed (drop (suc i) l)
@@ -155,3 +188,62 @@ pub sets-behind : (l : List ℕ) (i : ℕ) (xs : List ℕ) → i + length xs ≤
 sets-behind l i xs h =
     let z : 0 + length xs ≡ length xs = omega arith in
     rw (sets-eq xs l i h, sets-eq xs (drop i l) 0 (simp length-drop (omega arith)), z, drop-drop, append-assoc)
+
+-- ---- lines
+
+unbroken-both : (a b : List ℕ) → Unbroken a → Unbroken b → Unbroken (a ++ b)
+unbroken-both [] b x y = y
+unbroken-both (c ∷ a) b x y = (x .0, unbroken-both a b (x .1) y)
+
+decimal-unbroken : (d n : ℕ) → Unbroken (decimalOf d n)
+unfolding decimalOf
+decimal-unbroken zero n = tt
+decimal-unbroken (suc d) n = go (ltb n 10) (decimal-unbroken d (n / 10))
+  where
+    digit : (k : ℕ) → Unbroken ((48 + k) ∷ [])
+    digit k = (ne-eqb (48 + k) newline (λ e. omega arith), tt)
+
+    go : (t : Bool) → Unbroken (decimalOf d (n / 10)) → Unbroken (cond t ((48 + n) ∷ []) (decimalOf d (n / 10) ++ ((48 + n % 10) ∷ [])))
+    go true x = digit n
+    go false x = unbroken-both (decimalOf d (n / 10)) ((48 + n % 10) ∷ []) x (digit (n % 10))
+
+tabbed-unbroken : (ns : List ℕ) → Unbroken (tabbed ns)
+unfolding tabbed decimal
+tabbed-unbroken [] = tt
+tabbed-unbroken (n ∷ ns) = (refl, unbroken-both (decimal n) (tabbed ns) (decimal-unbroken 7 n) (tabbed-unbroken ns))
+
+commas-unbroken : (ns : List ℕ) → Unbroken (commas ns)
+unfolding commas decimal
+commas-unbroken [] = tt
+commas-unbroken (n ∷ ns) = (refl, unbroken-both (decimal n) (commas ns) (decimal-unbroken 7 n) (commas-unbroken ns))
+
+keys-unbroken : (ks : List ℕ) → Unbroken (keysText ks)
+unfolding keysText decimal
+keys-unbroken [] = (refl, tt)
+keys-unbroken (k ∷ ks) = unbroken-both (decimal k) (commas ks) (decimal-unbroken 7 k) (commas-unbroken ks)
+
+-- a sheet line is one line
+pub sheet-line-one : (letter : ℕ) (ns : List ℕ) → eqb letter newline ≡ false → OneLine (sheetLine letter ns)
+unfolding sheetLine
+sheet-line-one letter ns e = record { bare = letter ∷ tabbed ns; unbroken = (e, tabbed-unbroken ns); whole = refl }
+
+-- so is one that ends in keys
+pub keys-line-one : (letter : ℕ) (ns ks : List ℕ) → eqb letter newline ≡ false → OneLine (keysLine letter ns ks)
+unfolding keysLine
+keys-line-one letter ns ks e =
+    record {
+      bare = letter ∷ (tabbed ns ++ (tab ∷ keysText ks));
+      unbroken = (e, unbroken-both (tabbed ns) (tab ∷ keysText ks) (tabbed-unbroken ns) (refl, keys-unbroken ks));
+      whole = ap (λ (l : List ℕ). letter ∷ l) (sym (append-assoc (tabbed ns) (tab ∷ keysText ks) (newline ∷ [])));
+    }
+
+-- up to its newline
+line-first : (a rest : List ℕ) → Unbroken a → lines (a ++ (newline ∷ rest)) ≡ a ∷ lines rest
+unfolding lines onto
+line-first [] rest x = refl
+line-first (b ∷ a) rest x = rw (x .0, line-first a rest (x .1))
+
+-- the lines of some bytes that begin with one line: first that one
+pub lines-first : {l : List ℕ} (o : OneLine l) (rest : List ℕ) → lines (l ++ rest) ≡ o .bare ∷ lines rest
+lines-first o rest =
+    ap (λ (x : List ℕ). lines (x ++ rest)) (o .whole) ∙ ap lines (append-assoc (o .bare) (newline ∷ []) rest) ∙ line-first (o .bare) rest (o .unbroken)
