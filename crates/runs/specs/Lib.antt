@@ -9,4 +9,5 @@ pub mod Demand
 pub mod Instance
 pub mod Counts
 pub mod Unfit
+pub mod Standing
 pub mod Walks

@@ -1,25 +1,21 @@
 -- Walks played: one passes 42 routes, as many as demand 3 allows; one passes two and then stands still in phase 22.
 use mathlib.Core.List.{List, _++_}
 use mathlib.Core.Path.{_≡_, refl}
-use Prim.Native.Nat.{ℕ, zero, suc, _+_}
+use Prim.Native.Nat.{ℕ, zero, suc}
 use Rattle.keys.specs.Keys.{with, without, union, below, from, rising, listOf, size, splitKey}
 use Rattle.rules.specs.State.{fresh, placeAt, threadAt}
 use Rattle.rules.specs.Rows.{hangs, searches, seeks, row1, row2, row3, row4, commits, decides, row5, noSplit, split, row6, row7, row8, row9, row10, row11, noJoin, join, row12, row13, row14, row15, row16, row17, row18, row19, row20, row21, row22, row23, row24, row25, row0, rows, planOf}
 use Rattle.rules.specs.Needs.{needs, stuck}
 use Rattle.rules.specs.Range.{settingsInRange, bodyInRange, placeInRange, registerInRange, registersInRange, threadInRange, placesInRange, threadsInRange, countsInRange, inRange}
 use Rattle.rules.specs.Step.{begun, beginOf, viewBefore, nextOf, viewOf, put, apply, after, replyOf, stepOf}
-use Rattle.runs.specs.Calls.{Move, steps, afterMove, afterMoves, times}
+use Rattle.runs.specs.Calls.{Move, afterMove, afterMoves, times}
 use Rattle.runs.specs.Passes.{one, takesRoute, passedBy, passes, passed}
 use Rattle.runs.specs.Instance.{plays, crossSettings, contended, grown}
 
--- key k is inserted at a base, d routes below the root, that is held: the insert has to wait and splits it
-unfoldable pub splits : ℕ → ℕ → List Move
-splits k d = plays 0 2 k (2 + d) ++ plays 1 0 k (2 + d) ++ times 2 (steps 0) ++ times 6 (steps 1)
-
--- n routes with the keys 1 to n, each but the first the right child of the one before
+-- n routes with the keys 1 to n, each the right child of the one before: each key is inserted at the last base and splits it
 unfoldable pub chain : ℕ → List Move
 chain zero = plays 0 0 0 4
-chain (suc n) = chain n ++ splits (suc n) n
+chain (suc n) = chain n ++ contended 0 (suc n) n
 
 -- thread 0 looks up 63 at the end of the longest chain that 128 nodes allow
 unfoldable pub longest : List Move
@@ -38,5 +34,5 @@ pub record Walked : Type 0 where
   pub at-23-passes : passed 1 (fresh crossSettings) (descends 17) 0 ≡ 2
 
 pub walked : Walked
-unfolding one with without union below from rising listOf size splitKey fresh placeAt threadAt hangs searches seeks row1 row2 row3 row4 commits decides row5 noSplit split row6 row7 row8 row9 row10 row11 noJoin join row12 row13 row14 row15 row16 row17 row18 row19 row20 row21 row22 row23 row24 row25 row0 rows planOf needs stuck settingsInRange bodyInRange placeInRange registerInRange registersInRange threadInRange placesInRange threadsInRange countsInRange inRange begun beginOf viewBefore nextOf viewOf put apply after replyOf stepOf afterMove afterMoves takesRoute passedBy passes passed times plays contended grown splits chain longest descends
+unfolding one with without union below from rising listOf size splitKey fresh placeAt threadAt hangs searches seeks row1 row2 row3 row4 commits decides row5 noSplit split row6 row7 row8 row9 row10 row11 noJoin join row12 row13 row14 row15 row16 row17 row18 row19 row20 row21 row22 row23 row24 row25 row0 rows planOf needs stuck settingsInRange bodyInRange placeInRange registerInRange registersInRange threadInRange placesInRange threadsInRange countsInRange inRange begun beginOf viewBefore nextOf viewOf put apply after replyOf stepOf afterMove afterMoves takesRoute passedBy passes passed times plays contended grown chain longest descends
 walked = record { longest-passes = refl; at-22 = refl; at-22-passes = refl; at-23 = refl; at-23-passes = refl }
