@@ -22,6 +22,7 @@ pub record Stands (n p : ℕ) (d : Due) : Type 0 where
   pub phase : threadAt (afterMoves (fresh crossSettings) (waited n)) 1 .phase ≡ p
   pub standing : dueOf 1 (threadAt (afterMoves (fresh crossSettings) (waited n)) 1) ≡ d
 
+-- before and after the commit, and after the end
 pub record Stood : Type 0 where
   pub begun-yet : Stands 1 5 (due 0 7)
   pub committed-yet : Stands 2 6 (done (record { thread = 1; operation = 0; key = 7; answer = 1; number = 3 }))

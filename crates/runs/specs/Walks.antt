@@ -25,7 +25,7 @@ longest = chain 42 ++ plays 0 2 63 43
 unfoldable pub descends : ℕ → List Move
 descends n = grown ++ plays 1 2 4 5 ++ plays 1 2 4 n
 
--- in phase 22 nothing but the phase changes once the walk is at the route above N
+-- the longest walk; and the last step in phase 22, which takes no route
 pub record Walked : Type 0 where
   pub longest-passes : passed 0 (fresh crossSettings) longest 0 ≡ 42
   pub at-22 : threadAt (afterMoves (fresh crossSettings) (descends 16)) 1 .phase ≡ 22
