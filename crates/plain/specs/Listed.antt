@@ -1,37 +1,26 @@
--- The keys of the plain set are those of the key list and of the retired bases between splice and link.
-use mathlib.Core.Bool.{Bool, true, false, _&&_, _||_, true≢false}
+-- The key list has the keys of the bases of the tree: those of the plain set, while no thread is between splice and link.
+use mathlib.Core.Bool.{Bool, true, false, _||_, true≢false}
 use mathlib.Core.Path.{_≡_, refl, sym, ap, _∙_}
-use Prim.Native.Nat.{ℕ, zero, suc, _≤_, _<_}
+use Prim.Native.Nat.{ℕ, _≤_}
 use native.Mathlib.Omega.{arith}
 use lib.ListN.{List·getD-eq-default}
 use Rattle.keys.specs.Keys.{has}
 use Rattle.keys.specs.Laws.{has-none}
-use Rattle.rules.specs.State.{zeroPlace, placeAt, threadAt}
+use Rattle.rules.specs.State.{zeroPlace}
 use Rattle.rules.specs.Places.{keysOf}
 use Rattle.rules.specs.List.{reached}
 use Rattle.rules.specs.declared.state.Place.{Place}
 use Rattle.rules.specs.declared.state.State.{State}
-use Rattle.states.specs.Tests.{both}
-use Rattle.graph.specs.Cases.{Same, same, apart, compared, is-same, is-apart, is-some}
+use Rattle.graph.specs.Cases.{is-same, is-apart, is-some}
 use Rattle.graph.specs.Walk.{Cell}
 use Rattle.graph.specs.Tree.{Tree, fork, count, Shape, leaf, branch, Stands, top, inL, inR, stands}
 use Rattle.graph.specs.Graph.{summit}
-use Rattle.runs.specs.Holders.{late}
+use Rattle.runs.specs.Holders.{Quiet}
 use Rattle.order.specs.World.{World, cell, cellsOf, keys, worldOf}
-use Rattle.order.specs.Bridge.{place-at}
 use Rattle.order.specs.Walks.{summit-at}
 use Rattle.order.specs.KeyList.{keysIn, root-tree, reached-keys}
-use Rattle.plain.specs.Held.{keysAt, Held, inBase, inRetired, linking-of}
+use Rattle.plain.specs.Held.{keysAt, Held, inBase, inRetired}
 use Rattle.plain.specs.Plain.{Plain}
-
--- j is a key of the base register of one of the first n threads that is in phases 20 to 23
-unfoldable pub retiredIn : State → ℕ → ℕ → Bool
-retiredIn s zero j = false
-retiredIn s (suc n) j = (late (threadAt s n .phase) && has (keysOf (placeAt s (threadAt s n .base))) j) || retiredIn s n j
-
--- of one of the eight threads
-abbrev pub retired : State → ℕ → Bool
-retired s j = retiredIn s 8 j
 
 -- a base of the tree that has the key
 record Found (g : ℕ → Cell) (ks : ℕ → ℕ) (t : Tree) (j : ℕ) : Type 0 where
@@ -81,35 +70,6 @@ module _ {s : State} {p : ℕ} (x : Plain s p) (j : ℕ) where
   abbrev w : World
   w = worldOf s (x .inv .nodes .tree) (x .inv .nodes .own)
 
-  -- the retired bases' keys are held, and the other way round
-  retired-held : (n : ℕ) → n ≤ 8 → retiredIn s n j ≡ true → Held (x .inv .nodes) j
-  unfolding retiredIn
-  retired-held zero l e = absurd (true≢false (sym e))
-  retired-held (suc n) l e =
-      go (either (late (threadAt s n .phase) && has (keysOf (placeAt s (threadAt s n .base))) j) (retiredIn s n j) e) (retired-held n (omega arith))
-    where
-      go : Either (late (threadAt s n .phase) && has (keysOf (placeAt s (threadAt s n .base))) j) (retiredIn s n j)
-          → (retiredIn s n j ≡ true → Held (x .inv .nodes) j) → Held (x .inv .nodes) j
-      go (two f) u = u f
-      go (one f) u =
-          let q = both (late (threadAt s n .phase)) (has (keysOf (placeAt s (threadAt s n .base))) j) f in
-          let m : n ≤ 7 = omega arith in
-          inRetired n m (q .0)
-          (ap (λ (y : Place). has (keysOf y) j) (sym (place-at s (threadAt s n .base) (linking-of (x .inv .nodes) n m (q .0) .base .small))) ∙ q .1)
-
-  held-retired : (v n : ℕ) → v < n → late (threadAt s v .phase) ≡ true → has (keysOf (placeAt s (threadAt s v .base))) j ≡ true → retiredIn s n j ≡ true
-  unfolding retiredIn
-  held-retired v zero l e h = absurd (omega arith)
-  held-retired v (suc n) l e h = go (compared v n) (λ k. held-retired v n k e h)
-    where
-      mine : v ≡ n → (late (threadAt s n .phase) && has (keysOf (placeAt s (threadAt s n .base))) j) ≡ true
-      mine q = rw (← q) (rw (e, h))
-
-      go : Same v n → (v < n → retiredIn s n j ≡ true)
-          → ((late (threadAt s n .phase) && has (keysOf (placeAt s (threadAt s n .base))) j) || retiredIn s n j) ≡ true
-      go (same q) u = left-or (retiredIn s n j) (mine q)
-      go (apart d) u = right-or (late (threadAt s n .phase) && has (keysOf (placeAt s (threadAt s n .base))) j) (u (omega arith))
-
   -- the listed keys are held, and the other way round
   listed-held : has (reached s .keys) j ≡ true → Held (x .inv .nodes) j
   listed-held h =
@@ -132,19 +92,16 @@ module _ {s : State} {p : ℕ} (x : Plain s p) (j : ℕ) where
   held-listed : (b : ℕ) → 1 ≤ count b (x .inv .nodes .tree) → cellsOf s b .route ≡ false → has (keysAt s b) j ≡ true → has (reached s .keys) j ≡ true
   held-listed b a f h = reached-keys (x .inv) j ∙ found (cell w) (keys w) j b (root-tree (x .inv) .shape) (under-root b a f h) f h
 
-  -- the plain set has the keys of the key list and those of the retired bases of threads in phases 20 to 23
-  pub plain-keys : has p j ≡ (has (reached s .keys) j || retired s j)
-  plain-keys = go (has p j) (has (reached s .keys) j) (retired s j) refl refl refl
+  -- while no thread is in phases 20 to 23, the key list has the keys of the plain set
+  pub quiet-keys : Quiet s → has (reached s .keys) j ≡ has p j
+  quiet-keys q = go (has (reached s .keys) j) (has p j) refl refl
     where
-      one-of : Held (x .inv .nodes) j → (has (reached s .keys) j || retired s j) ≡ true
-      one-of (inBase b a f h) = left-or (retired s j) (held-listed b a f h)
-      one-of (inRetired v a f h) =
-          right-or (has (reached s .keys) j)
-          (held-retired v 8 (omega arith) f
-          (ap (λ (y : Place). has (keysOf y) j) (place-at s (threadAt s v .base) (linking-of (x .inv .nodes) v a f .base .small)) ∙ h))
+      listed : Held (x .inv .nodes) j → has (reached s .keys) j ≡ true
+      listed (inBase b a f h) = held-listed b a f h
+      listed (inRetired v a f h) = absurd (true≢false (sym f ∙ q v a))
 
-      go : (a b c : Bool) → has p j ≡ a → has (reached s .keys) j ≡ b → retired s j ≡ c → a ≡ (b || c)
-      go true b c u v z = sym (ap (λ (y : Bool). y || c) (sym v) ∙ ap (λ (y : Bool). has (reached s .keys) j || y) (sym z) ∙ one-of (x .back j u))
-      go false true c u v z = absurd (true≢false (sym (x .on j (listed-held v)) ∙ u))
-      go false false true u v z = absurd (true≢false (sym (x .on j (retired-held 8 (omega arith) z)) ∙ u))
-      go false false false u v z = refl
+      go : (a b : Bool) → has (reached s .keys) j ≡ a → has p j ≡ b → a ≡ b
+      go true true u v = refl
+      go false false u v = refl
+      go true false u v = absurd (true≢false (sym (x .on j (listed-held u)) ∙ v))
+      go false true u v = absurd (true≢false (sym (listed (x .back j v)) ∙ u))

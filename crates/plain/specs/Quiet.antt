@@ -1,9 +1,8 @@
 -- While no thread is between splice and link, the key list is the plain set.
-use mathlib.Core.Bool.{Bool, true, false, _||_}
+use mathlib.Core.Bool.{true}
 use mathlib.Core.List.{List, [], _∷_}
-use mathlib.Core.Path.{_≡_, refl, sym, ap, _∙_}
-use Prim.Native.Nat.{ℕ, zero, suc, _≤_}
-use native.Mathlib.Omega.{arith}
+use mathlib.Core.Path.{_≡_, ap, _∙_}
+use Prim.Native.Nat.{ℕ}
 use Rattle.keys.specs.Keys.{has}
 use Rattle.rules.specs.State.{fresh}
 use Rattle.rules.specs.Range.{settingsInRange, inRange}
@@ -19,7 +18,7 @@ use Rattle.runs.specs.Holders.{Quiet}
 use Rattle.runs.specs.Demand.{ListsThe}
 use Rattle.order.specs.KeyList.{reached-once}
 use Rattle.plain.specs.Plain.{Plain}
-use Rattle.plain.specs.Listed.{retiredIn, retired, plain-keys}
+use Rattle.plain.specs.Listed.{quiet-keys}
 use Rattle.plain.specs.Runs.{plainAfter, run-plain}
 use Rattle.plain.specs.Log.{run-log}
 
@@ -29,12 +28,6 @@ unfolding afterMoves afterMove
 moves-in-range s [] x = x
 moves-in-range s (begins t o k ∷ cs) x = moves-in-range (afterMove s (begins t o k)) cs (begin-in-range s t o k x)
 moves-in-range s (steps t ∷ cs) x = moves-in-range (afterMove s (steps t)) cs (step-in-range s t x)
-
--- no keys are retired
-none-retired : (s : State) (j : ℕ) → Quiet s → (n : ℕ) → n ≤ 8 → retiredIn s n j ≡ false
-unfolding retiredIn
-none-retired s j q zero l = refl
-none-retired s j q (suc n) l = rw (q n (omega arith)) (none-retired s j q n (omega arith))
 
 -- after any calls from a fresh state with settings in range
 pub run-quiet : (c : Settings) (cs : List Move) → settingsInRange c ≡ true → Quiet (afterMoves (fresh c) cs)
@@ -58,8 +51,4 @@ run-quiet c cs r q =
     p = playLog empty (logOf (fresh c) cs)
 
     agrees : (j : ℕ) → has (reached s .keys) j ≡ p j
-    agrees j = sym (ap (λ (m : PlainSet). m j) (sym (run-log c cs)) ∙ plain-keys x j ∙ alone (has (reached s .keys) j))
-      where
-        alone : (b : Bool) → (b || retired s j) ≡ b
-        alone true = refl
-        alone false = none-retired s j q 8 (omega arith)
+    agrees j = quiet-keys x j q ∙ ap (λ (m : PlainSet). m j) (run-log c cs)

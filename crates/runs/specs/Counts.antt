@@ -35,6 +35,7 @@ stray =
       threads = set (s .threads) 0 (atPhase 20 (threadAt s 0));
     }
 
+-- before and after the splice, before and after the link
 pub record Played : Type 0 where
   pub splice : Once 10 19
   pub spliced : Once 11 20

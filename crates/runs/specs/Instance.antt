@@ -67,9 +67,9 @@ example-D = record { phase = refl; set = refl; list = refl; count = refl; number
 abbrev pub crossSettings : Settings
 crossSettings = record { succ = 1; fail = 2; low = 1; max = 0 }
 
--- two lookups of k, d routes below the root, at one base: the second has to wait and splits it
-unfoldable pub contended : ℕ → ℕ → List Move
-contended k d = plays 0 2 k (2 + d) ++ plays 1 2 k (2 + d) ++ times 2 (steps 0) ++ times 6 (steps 1)
+-- a lookup of k and operation o on it, d routes below the root, at one base: the second has to wait and splits it
+unfoldable pub contended : ℕ → ℕ → ℕ → List Move
+contended o k d = plays 0 2 k (2 + d) ++ plays 1 o k (2 + d) ++ times 2 (steps 0) ++ times 6 (steps 1)
 
 -- the keys 1 to 6, parted by three splits: the root has the key 4, its left child 2, and the right child of that 3
 unfoldable pub grown : List Move
@@ -80,9 +80,9 @@ grown =
     ++ plays 0 0 4 4
     ++ plays 0 0 5 4
     ++ plays 0 0 6 4
-    ++ contended 1 0
-    ++ contended 1 1
-    ++ contended 2 2
+    ++ contended 2 1 0
+    ++ contended 2 1 1
+    ++ contended 2 2 2
 
 -- two joins that cross: thread 0 stands in phase 17, and thread 1 splices out the route that is its G; then thread 0 takes two steps
 unfoldable pub crossing : List Move

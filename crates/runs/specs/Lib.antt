@@ -10,4 +10,5 @@ pub mod Instance
 pub mod Counted
 pub mod Counts
 pub mod Unfit
+pub mod Standing
 pub mod Walks

@@ -1,21 +1,17 @@
 -- Walks played: one passes 42 routes, as many as demand 3 allows; one passes two and then stands still in phase 22.
 use mathlib.Core.List.{List, _++_}
 use mathlib.Core.Path.{_≡_, refl}
-use Prim.Native.Nat.{ℕ, zero, suc, _+_}
+use Prim.Native.Nat.{ℕ, zero, suc}
 use Rattle.rules.specs.State.{fresh, threadAt}
 use Rattle.rules.specs.Computes.{computes}
-use Rattle.runs.specs.Calls.{Move, steps, afterMove, afterMoves, times}
+use Rattle.runs.specs.Calls.{Move, afterMove, afterMoves, times}
 use Rattle.runs.specs.Passes.{one, takesRoute, passedBy, passes, passed}
 use Rattle.runs.specs.Instance.{plays, crossSettings, contended, grown}
 
--- key k is inserted at a base, d routes below the root, that is held: the insert has to wait and splits it
-unfoldable pub splits : ℕ → ℕ → List Move
-splits k d = plays 0 2 k (2 + d) ++ plays 1 0 k (2 + d) ++ times 2 (steps 0) ++ times 6 (steps 1)
-
--- n routes with the keys 1 to n, each but the first the right child of the one before
+-- n routes with the keys 1 to n, each the right child of the one before: each key is inserted at the last base and splits it
 unfoldable pub chain : ℕ → List Move
 chain zero = plays 0 0 0 4
-chain (suc n) = chain n ++ splits (suc n) n
+chain (suc n) = chain n ++ contended 0 (suc n) n
 
 -- thread 0 looks up 63 at the end of the longest chain that 128 nodes allow
 unfoldable pub longest : List Move
@@ -25,7 +21,7 @@ longest = chain 42 ++ plays 0 2 63 43
 unfoldable pub descends : ℕ → List Move
 descends n = grown ++ plays 1 2 4 5 ++ plays 1 2 4 n
 
--- in phase 22 nothing but the phase changes once the walk is at the route above N
+-- the longest walk; and the last step in phase 22, which takes no route
 pub record Walked : Type 0 where
   pub longest-passes : passed 0 (fresh crossSettings) longest 0 ≡ 42
   pub at-22 : threadAt (afterMoves (fresh crossSettings) (descends 16)) 1 .phase ≡ 22
@@ -34,5 +30,5 @@ pub record Walked : Type 0 where
   pub at-23-passes : passed 1 (fresh crossSettings) (descends 17) 0 ≡ 2
 
 pub walked : Walked
-unfolding computes one afterMove afterMoves takesRoute passedBy passes passed times plays contended grown splits chain longest descends
+unfolding computes one afterMove afterMoves takesRoute passedBy passes passed times plays contended grown chain longest descends
 walked = record { longest-passes = refl; at-22 = refl; at-22-passes = refl; at-23 = refl; at-23-passes = refl }
