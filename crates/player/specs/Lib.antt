@@ -1,3 +1,4 @@
 pub mod Turns
 pub mod Several
+pub mod Ahead
 pub mod Sheets
