@@ -4,8 +4,8 @@
 use libc::STDIN_FILENO;
 use libc::STDOUT_FILENO;
 
-// A program has no exit status. One that is started with this argument writes a word to this descriptor once the
-// whole sheet is written, so that its caller knows.
+// A program has no exit status. One that is started with this argument says on this descriptor whether the whole sheet
+// was written: `whole` or, where a write failed, `short`.
 const ASKED: [u8; 8] = [b'-', b'-', b'w', b'h', b'o', b'l', b'e', 0];
 
 const WORD_FILENO: i32 = 3;
@@ -24,30 +24,37 @@ fn is_asked() -> bool {
     true
 }
 
-// Reads the schedule and writes its sheet; whether the whole sheet was written, and taken by what it was written to.
-fn is_played() -> bool {
+// Whether the whole sheet was written, and taken by what it was written to.
+fn is_written(schedule: &[u8]) -> bool {
+    if stream::play(schedule) {
+        return libc::close(STDOUT_FILENO) == 0;
+    }
+    false
+}
+
+fn say(word: &[u8]) {
+    if console::write_all(WORD_FILENO, word).failed {
+        console::tell(b"keysheet: saying whether the sheet is whole");
+    }
+}
+
+fn main() {
     let mut buffer = io::large_buffer();
     let moved = console::read_all(STDIN_FILENO, &mut buffer);
     if moved.failed {
         console::tell(b"keysheet: reading");
-        return false;
+        return;
     }
     let n = moved.bytes;
-    if stream::play(&buffer[..n]) {
-        if libc::close(STDOUT_FILENO) == 0 {
-            return true;
-        }
+    let whole = is_written(&buffer[..n]);
+    if !whole {
+        console::tell(b"keysheet: writing");
     }
-    console::tell(b"keysheet: writing");
-    false
-}
-
-fn main() {
-    if is_played() {
-        if is_asked() {
-            if console::write_all(WORD_FILENO, b"whole\n").failed {
-                console::tell(b"keysheet: writing the word");
-            }
+    if is_asked() {
+        if whole {
+            say(b"whole\n");
+        } else {
+            say(b"short\n");
         }
     }
 }
