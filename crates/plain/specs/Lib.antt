@@ -15,3 +15,4 @@ pub mod Events
 pub mod Quiet
 pub mod CountedSteps
 pub mod Demand
+pub mod Longest

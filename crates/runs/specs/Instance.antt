@@ -1,10 +1,8 @@
 -- Example D as a run: demand 3 speaks of something. Seven operations are committed. Thread 0 has spliced and not linked: key 2 of the plain set
 -- is in its base register alone, so the key list lacks it.
-use mathlib.Core.Bool.{false}
 use mathlib.Core.List.{List, [], _∷_, _++_, map}
 use mathlib.Core.Path.{_≡_, refl}
 use Prim.Native.Nat.{ℕ, _+_}
-use Rattle.keys.specs.Keys.{has}
 use Rattle.rules.specs.declared.state.Settings.{Settings}
 use Rattle.rules.specs.declared.state.State.{State}
 use Rattle.rules.specs.declared.answer.ListReply.the-variants.{Keys}
@@ -50,7 +48,7 @@ number e = e .number
 pub record Seen (s : State) (log : List Entry) : Type 0 where
   pub phase : threadAt s 0 .phase ≡ 21
   pub set : keysIn (playLog empty log) ≡ 2 ∷ 5 ∷ 7 ∷ 9 ∷ []
-  pub list : has (reached s .keys) 2 ≡ false
+  pub list : listOf (reached s .keys) ≡ 7 ∷ 9 ∷ []
   pub count : holders s 2 ≡ 1
   pub numbers : map number log ≡ 1 ∷ 2 ∷ 3 ∷ 4 ∷ 5 ∷ 6 ∷ 7 ∷ []
   -- the lookup of 2 that thread 0 has committed and not ended
