@@ -33,6 +33,7 @@ fn waits(v: View) -> bool
 }
 
 // Steps of thread `t` until `n` have been taken or the operation ends. A step that waits changes nothing, so all that are left wait too.
+// It reads and stores places itself: a function over the state would copy it.
 fn take_steps(s: State, t: u32, n: u32) -> Run
     requires { ⌜ (t < 8) × (n ≤ 1000) ⌝ }
     ensures { λ r. ⌜ r ≡ steps n s s t 0 ⌝ }
@@ -40,43 +41,80 @@ fn take_steps(s: State, t: u32, n: u32) -> Run
     let i = t as usize;
     let mut u = s;
     let mut k: u32 = 0;
-    loop {
+    let reply = loop {
         let th = u.threads[i];
         if n <= k {
-            break Run {
-                reply: RunReply::Stops {
-                    taken: k,
-                    phase: th.phase,
-                },
-                state: u,
+            break RunReply::Stops {
+                taken: k,
+                phase: th.phase,
             };
         }
-        let v = view::view(u, t);
+        let settings = u.settings;
+        let p = (th.prev % 128) as usize;
+        let b = (th.base % 128) as usize;
+        let w = (th.walk % 128) as usize;
+        let x = (th.neighbour % 128) as usize;
+        let g = (th.grandparent % 128) as usize;
+        let o = (th.made % 128) as usize;
+        let mut v = View {
+            me: t as u8,
+            thread: th,
+            settings,
+            root: u.root,
+            made: u.made,
+            begun: u.begun,
+            committed: u.committed,
+            prev: u.places[p],
+            base: u.places[b],
+            walk: u.places[w],
+            neighbour: u.places[x],
+            grandparent: u.places[g],
+            own: u.places[o],
+            reached: view::zero_place(),
+        };
+        let r = (phase::next(v) % 128) as usize;
+        let reached = u.places[r];
+        v.reached = reached;
         if ready::stuck(v) {
-            break refused_run(s, 8);
+            return refused_run(s, 8);
         }
         if waits(v) {
-            break Run {
-                reply: RunReply::Stops {
-                    taken: n,
-                    phase: th.phase,
-                },
-                state: u,
+            break RunReply::Stops {
+                taken: n,
+                phase: th.phase,
             };
         }
-        u = view::apply(u, t, phase::plan_of(v));
+        let plan = phase::plan_of(v);
+        let first = plan.first;
+        let a = (first.at % 128) as usize;
+        let old = u.places[a];
+        let new = view::stored(first, old);
+        u.places[a] = new;
+        let second = plan.second;
+        let d = (second.at % 128) as usize;
+        let old = u.places[d];
+        let new = view::stored(second, old);
+        u.places[d] = new;
+        let third = plan.third;
+        let e = (third.at % 128) as usize;
+        let old = u.places[e];
+        let new = view::stored(third, old);
+        u.places[e] = new;
+        let after = plan.thread;
+        u.threads[i] = after;
+        u.root = plan.root;
+        u.made = plan.made;
+        u.committed = plan.committed;
         k += 1;
         if th.phase == 25 {
-            break Run {
-                reply: RunReply::Ends {
-                    taken: k,
-                    answer: th.answer,
-                    commit: th.commit,
-                },
-                state: u,
+            break RunReply::Ends {
+                taken: k,
+                answer: th.answer,
+                commit: th.commit,
             };
         }
-    }
+    };
+    Run { reply, state: u }
 }
 
 // Take `n` steps of thread `t`, or fewer if the operation ends, without the range test.

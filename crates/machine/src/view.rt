@@ -11,9 +11,10 @@ ghost use mathlib.Core.Path.{_≡_};
 ghost use Prim.Native.Nat.{_<_};
 ghost use Rattle.rules.specs.State.{zeroPlace, placeAt};
 ghost use Rattle.rules.specs.Step.{viewBefore, viewOf, put, apply};
+ghost use Rattle.machine.specs.InPlace.{stored};
 
 // What an index past the end reads, and what no row looks at.
-fn zero_place() -> Place
+pub(crate) fn zero_place() -> Place
     ensures { λ r. ⌜ r ≡ zeroPlace ⌝ }
 {
     Place {
@@ -69,6 +70,17 @@ pub(crate) fn view(s: State, t: u32) -> View
     let p = s.places[i];
     v.reached = p;
     v
+}
+
+// The place at a store's number after it: the stored one or, where nothing is stored, the old one.
+pub(crate) fn stored(w: Store, old: Place) -> Place
+    ensures { λ r. ⌜ r ≡ stored w old ⌝ }
+{
+    if w.at < 128 {
+        let place = w.place;
+        return place;
+    }
+    old
 }
 
 // The state after the plan of thread `t`'s step.

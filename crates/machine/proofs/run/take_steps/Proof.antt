@@ -6,12 +6,11 @@ use borrow.Author.Needs.{needs}
 use borrow.Author.Tests.{eq-eqb, ne-eqb}
 use Rattle.rules.specs.declared.state.State.{State}
 use Rattle.rules.specs.declared.answer.RunReply.the-variants.{Stops, Ends}
-use Rattle.rules.specs.State.{threadAt}
-use Rattle.rules.specs.Rows.{planOf}
+use Rattle.rules.specs.State.{placeAt, threadAt}
 use Rattle.rules.specs.Needs.{stuck}
 use Rattle.states.specs.Waits.{waits, waits-steps}
-use Rattle.rules.specs.Step.{viewOf, apply, after, steps}
-use Rattle.machine.specs.Commits.{can-commit}
+use Rattle.rules.specs.Step.{viewBefore, steps}
+use Rattle.machine.specs.InPlace.{loads, stores, planned}
 use Rattle.machine.proofs.Steps.{all-taken, is-stuck, has-ended, goes-on}
 use Rattle.machine.proofs.run.take_steps.Statement.{statement}
 use Rattle.machine.proofs.run.take_steps.Tie as tie
@@ -34,8 +33,77 @@ mul-th c = search needs
 element-copy-out-th : tie.Need-element-copy-out-th Inv-loop μ-loop
 element-copy-out-th c = search needs
 
-view-requires : tie.Need-view-requires Inv-loop μ-loop
-view-requires c κs = search needs
+cast-p : tie.Need-cast-p Inv-loop μ-loop
+cast-p c = search needs
+
+cast-b : tie.Need-cast-b Inv-loop μ-loop
+cast-b c = search needs
+
+cast-w : tie.Need-cast-w Inv-loop μ-loop
+cast-w c = search needs
+
+cast-x : tie.Need-cast-x Inv-loop μ-loop
+cast-x c = search needs
+
+cast-g : tie.Need-cast-g Inv-loop μ-loop
+cast-g c = search needs
+
+cast-o : tie.Need-cast-o Inv-loop μ-loop
+cast-o c = search needs
+
+cast-r : tie.Need-cast-r Inv-loop μ-loop
+cast-r c = search needs
+
+mul-t34 : tie.Need-mul-t34 Inv-loop μ-loop
+mul-t34 c = search needs
+
+element-copy-out-t46 : tie.Need-element-copy-out-t46 Inv-loop μ-loop
+element-copy-out-t46 c = search needs
+
+mul-t47 : tie.Need-mul-t47 Inv-loop μ-loop
+mul-t47 c = search needs
+
+element-copy-out-t50 : tie.Need-element-copy-out-t50 Inv-loop μ-loop
+element-copy-out-t50 c = search needs
+
+mul-t51 : tie.Need-mul-t51 Inv-loop μ-loop
+mul-t51 c = search needs
+
+element-copy-out-t54 : tie.Need-element-copy-out-t54 Inv-loop μ-loop
+element-copy-out-t54 c = search needs
+
+mul-t55 : tie.Need-mul-t55 Inv-loop μ-loop
+mul-t55 c = search needs
+
+element-copy-out-t58 : tie.Need-element-copy-out-t58 Inv-loop μ-loop
+element-copy-out-t58 c = search needs
+
+mul-t59 : tie.Need-mul-t59 Inv-loop μ-loop
+mul-t59 c = search needs
+
+element-copy-out-t62 : tie.Need-element-copy-out-t62 Inv-loop μ-loop
+element-copy-out-t62 c = search needs
+
+mul-t63 : tie.Need-mul-t63 Inv-loop μ-loop
+mul-t63 c = search needs
+
+element-copy-out-t66 : tie.Need-element-copy-out-t66 Inv-loop μ-loop
+element-copy-out-t66 c = search needs
+
+zero-place-requires : tie.Need-zero-place-requires Inv-loop μ-loop
+zero-place-requires c κs = search needs
+
+next-requires : tie.Need-next-requires Inv-loop μ-loop
+next-requires c κs = search needs
+
+cast-r-2 : tie.Need-cast-r-2 Inv-loop μ-loop
+cast-r-2 c = search needs
+
+mul-reached : tie.Need-mul-reached Inv-loop μ-loop
+mul-reached c = search needs
+
+element-copy-out-reached : tie.Need-element-copy-out-reached Inv-loop μ-loop
+element-copy-out-reached c = search needs
 
 stuck-requires : tie.Need-stuck-requires Inv-loop μ-loop
 stuck-requires c κs = search needs
@@ -43,65 +111,143 @@ stuck-requires c κs = search needs
 refused-run-requires : tie.Need-refused-run-requires Inv-loop μ-loop
 refused-run-requires c κs = search needs
 
+returns : tie.Need-returns Inv-loop μ-loop
+unfolding placeAt threadAt viewBefore
+returns c =
+    let a = c .before .before .before .before .before .before .before .before .before .before .before .before .before .before .before .before .before .before .before .before .before .before .args in
+    let l = c .before .before .before .before .before .before .before .before .before .before .before .before .before .before .before .before .before .before .before .before .before .loop in
+    let z = c .before .before .before .before .before .zero-place in
+    let m = c .before .before .before .before .next in
+    let w = loads (l .u) (a .t) (m .result) (z .result) (z .ensures) (m .ensures) in
+    c .refused-run .ensures
+    ∙ sym (l .inv .1 .1 ∙ is-stuck (a .s) (l .u) (a .t) (a .n) (l .k) (c .before .before .before .before .before .before .before .before .before .before .before .before .before .before .before .before .before .before .before .if1 .left) (ap stuck (sym w) ∙ sym (c .before .before .stuck .ensures) ∙ c .before .if2 .taken))
+
 waits-requires : tie.Need-waits-requires Inv-loop μ-loop
 waits-requires c κs = search needs
 
 plan-of-requires : tie.Need-plan-of-requires Inv-loop μ-loop
 plan-of-requires c κs = search needs
 
-apply-requires : tie.Need-apply-requires Inv-loop μ-loop
-apply-requires c κs = search needs
+cast-a : tie.Need-cast-a Inv-loop μ-loop
+cast-a c = search needs
+
+mul-old : tie.Need-mul-old Inv-loop μ-loop
+mul-old c = search needs
+
+element-copy-out-old : tie.Need-element-copy-out-old Inv-loop μ-loop
+element-copy-out-old c = search needs
+
+stored-requires : tie.Need-stored-requires Inv-loop μ-loop
+stored-requires c κs = search needs
+
+mul-new : tie.Need-mul-new Inv-loop μ-loop
+mul-new c = search needs
+
+element-set-from-new : tie.Need-element-set-from-new Inv-loop μ-loop
+element-set-from-new c = search needs
+
+cast-d : tie.Need-cast-d Inv-loop μ-loop
+cast-d c = search needs
+
+mul-old-2 : tie.Need-mul-old-2 Inv-loop μ-loop
+mul-old-2 c = search needs
+
+element-copy-out-old-2 : tie.Need-element-copy-out-old-2 Inv-loop μ-loop
+element-copy-out-old-2 c = search needs
+
+stored-requires-2 : tie.Need-stored-requires-2 Inv-loop μ-loop
+stored-requires-2 c κs = search needs
+
+mul-new-2 : tie.Need-mul-new-2 Inv-loop μ-loop
+mul-new-2 c = search needs
+
+element-set-from-new-2 : tie.Need-element-set-from-new-2 Inv-loop μ-loop
+element-set-from-new-2 c = search needs
+
+cast-e : tie.Need-cast-e Inv-loop μ-loop
+cast-e c = search needs
+
+mul-old-3 : tie.Need-mul-old-3 Inv-loop μ-loop
+mul-old-3 c = search needs
+
+element-copy-out-old-3 : tie.Need-element-copy-out-old-3 Inv-loop μ-loop
+element-copy-out-old-3 c = search needs
+
+stored-requires-3 : tie.Need-stored-requires-3 Inv-loop μ-loop
+stored-requires-3 c κs = search needs
+
+mul-new-3 : tie.Need-mul-new-3 Inv-loop μ-loop
+mul-new-3 c = search needs
+
+element-set-from-new-3 : tie.Need-element-set-from-new-3 Inv-loop μ-loop
+element-set-from-new-3 c = search needs
+
+mul-after : tie.Need-mul-after Inv-loop μ-loop
+mul-after c = omega (arith, c .before .before .before .before .before .before .before .before .before .before .before .before .before .before .before .before .before .before .before .before .before .before .before .before .before .before .before .before .before .before .before .before .before .before .before .before .before .pre .0)
+
+element-set-from-after : tie.Need-element-set-from-after Inv-loop μ-loop
+element-set-from-after c = omega (arith, c .before .before .before .before .before .before .before .before .before .before .before .before .before .before .before .before .before .before .before .before .before .before .before .before .before .before .before .before .before .before .before .before .before .before .before .before .before .pre .0)
 
 add-k : tie.Need-add-k Inv-loop μ-loop
-add-k c = record { fits = omega (arith, c .before .before .before .before .before .before .before .if1 .left, c .before .before .before .before .before .before .before .before .before .before .pre .1) }
+add-k c = record { fits = omega (arith, c .before .before .before .before .before .before .before .before .before .before .before .before .before .before .before .before .before .before .before .before .before .before .before .before .before .before .before .before .before .before .before .before .before .before .if1 .left, c .before .before .before .before .before .before .before .before .before .before .before .before .before .before .before .before .before .before .before .before .before .before .before .before .before .before .before .before .before .before .before .before .before .before .before .before .before .pre .1) }
 
 loop-less : tie.Need-loop-less Inv-loop μ-loop
-loop-less c = omega arith
+loop-less c = omega (arith, c .before .before .before .before .before .before .before .before .before .before .before .before .before .before .before .before .before .before .before .before .before .before .before .before .before .before .before .before .before .before .before .before .before .before .before .before .if1 .left)
 
 loop-again : tie.Need-loop-again Inv-loop μ-loop
-unfolding threadAt after
+unfolding placeAt threadAt viewBefore
 loop-again c =
-    let a = c .before .before .before .before .before .before .before .before .before .before .before .before .args in
-    let l = c .before .before .before .before .before .before .before .before .before .before .before .loop in
-    let w = c .before .before .before .before .before .before .before .before .view .ensures in
-    let e = ap stuck (sym w) ∙ sym (c .before .before .before .before .before .before .before .stuck .ensures) ∙ c .before .before .before .before .before .before .if2 .left in
-    let f = ap (apply (l .u) (a .t)) (c .before .before .before .plan-of .ensures (can-commit _ (sym (c .before .before .before .before .before .before .before .stuck .ensures) ∙ c .before .before .before .before .before .before .if2 .left)) ∙ ap planOf w) in
-    (l .inv .0, (omega arith, l .inv .1 .1 ∙ goes-on (a .s) (l .u) (a .t) (a .n) (l .k) (c .before .before .before .before .before .before .before .before .before .if1 .left) e (ne-eqb _ _ (c .if4 .left)) ∙ ap (λ (x : State). steps (a .n - (l .k + 1)) (a .s) x (a .t) (l .k + 1)) (sym (c .before .before .apply .ensures ∙ f))))
+    let a = c .before .before .before .before .before .before .before .before .before .before .before .before .before .before .before .before .before .before .before .before .before .before .before .before .before .before .before .before .before .before .before .before .before .before .before .before .before .before .before .args in
+    let l = c .before .before .before .before .before .before .before .before .before .before .before .before .before .before .before .before .before .before .before .before .before .before .before .before .before .before .before .before .before .before .before .before .before .before .before .before .before .before .loop in
+    let z = c .before .before .before .before .before .before .before .before .before .before .before .before .before .before .before .before .before .before .before .before .before .before .zero-place in
+    let m = c .before .before .before .before .before .before .before .before .before .before .before .before .before .before .before .before .before .before .before .before .before .next in
+    let p = c .before .before .before .before .before .before .before .before .before .before .before .before .before .before .before .plan-of in
+    let e = sym (c .before .before .before .before .before .before .before .before .before .before .before .before .before .before .before .before .before .before .before .stuck .ensures) ∙ c .before .before .before .before .before .before .before .before .before .before .before .before .before .before .before .before .before .before .if2 .left in
+    let w = loads (l .u) (a .t) (m .result) (z .result) (z .ensures) (m .ensures) in
+    let f = stores (l .u) (a .t) (p .result) _ _ _ (c .before .before .before .before .before .before .before .before .before .before .before .stored .ensures) (c .before .before .before .before .before .before .before .stored2 .ensures) (c .before .before .before .stored3 .ensures)
+    ∙ planned (l .u) (a .t) (m .result) (z .result) (z .ensures) (m .ensures) (p .result) (p .ensures) e in (
+      l .inv .0,
+      (
+        omega (arith, c .before .before .before .before .before .before .before .before .before .before .before .before .before .before .before .before .before .before .before .before .before .before .before .before .before .before .before .before .before .before .before .before .before .before .before .before .if1 .left),
+        l .inv .1 .1
+            ∙ goes-on (a .s) (l .u) (a .t) (a .n) (l .k) (c .before .before .before .before .before .before .before .before .before .before .before .before .before .before .before .before .before .before .before .before .before .before .before .before .before .before .before .before .before .before .before .before .before .before .before .before .if1 .left) (ap stuck (sym w) ∙ e) (ne-eqb _ _ (c .if4 .left))
+            ∙ ap (λ (x : State). steps (a .n - (l .k + 1)) (a .s) x (a .t) (l .k + 1)) (sym f),
+      ),
+    )
 
-returns : tie.Need-returns Inv-loop μ-loop
-unfolding threadAt after
-returns c =
+returns-2 : tie.Need-returns-2 Inv-loop μ-loop
+unfolding threadAt
+returns-2 c =
     let a = c .before .before .before .args in
     let l = c .before .before .loop in
     sym (l .inv .1 .1 ∙ all-taken (a .s) (l .u) (a .t) (a .n) (l .k) (c .if1 .taken))
 
-returns-2 : tie.Need-returns-2 Inv-loop μ-loop
-returns-2 c =
-    let a = c .before .before .before .before .before .before .before .args in
-    let l = c .before .before .before .before .before .before .loop in
-    let w = c .before .before .before .view .ensures in
-    c .refused-run .ensures
-    ∙ sym (l .inv .1 .1 ∙ is-stuck (a .s) (l .u) (a .t) (a .n) (l .k) (c .before .before .before .before .if1 .left) (ap stuck (sym w) ∙ sym (c .before .before .stuck .ensures) ∙ c .before .if2 .taken))
-
 returns-3 : tie.Need-returns-3 Inv-loop μ-loop
-unfolding threadAt after
+unfolding placeAt threadAt viewBefore
 returns-3 c =
-    let a = c .before .before .before .before .before .before .before .before .args in
-    let l = c .before .before .before .before .before .before .before .loop in
-    let w = c .before .before .before .before .view .ensures in
+    let a = c .before .before .before .before .before .before .before .before .before .before .before .before .before .before .before .before .before .before .before .before .before .before .before .args in
+    let l = c .before .before .before .before .before .before .before .before .before .before .before .before .before .before .before .before .before .before .before .before .before .before .loop in
+    let z = c .before .before .before .before .before .before .zero-place in
+    let m = c .before .before .before .before .before .next in
+    let w = loads (l .u) (a .t) (m .result) (z .result) (z .ensures) (m .ensures) in
     let e : a .n ≡ l .k + (a .n - l .k) = omega arith in
-    ap (λ (m : ℕ). record { reply = Stops m (threadAt (l .u) (a .t) .phase); state = l .u }) e
+    ap (λ (x : ℕ). record { reply = Stops x (threadAt (l .u) (a .t) .phase); state = l .u }) e
     ∙ sym (l .inv .1 .1 ∙ waits-steps (a .n - l .k) (a .s) (l .u) (a .t) (l .k) (ap waits (sym w) ∙ sym (c .before .waits .ensures) ∙ c .if3 .taken) (ap stuck (sym w) ∙ sym (c .before .before .before .stuck .ensures) ∙ c .before .before .if2 .left))
 
 returns-4 : tie.Need-returns-4 Inv-loop μ-loop
-unfolding threadAt after
+unfolding placeAt threadAt viewBefore
 returns-4 c =
-    let a = c .before .before .before .before .before .before .before .before .before .before .before .before .args in
-    let l = c .before .before .before .before .before .before .before .before .before .before .before .loop in
-    let w = c .before .before .before .before .before .before .before .before .view .ensures in
-    let f = ap (apply (l .u) (a .t)) (c .before .before .before .plan-of .ensures (can-commit _ (sym (c .before .before .before .before .before .before .before .stuck .ensures) ∙ c .before .before .before .before .before .before .if2 .left)) ∙ ap planOf w) in
-    ap (λ (x : State). record { reply = Ends (l .k + 1) (threadAt (l .u) (a .t) .answer) (threadAt (l .u) (a .t) .commit); state = x }) (c .before .before .apply .ensures ∙ f)
-    ∙ sym (l .inv .1 .1 ∙ has-ended (a .s) (l .u) (a .t) (a .n) (l .k) (c .before .before .before .before .before .before .before .before .before .if1 .left) (ap stuck (sym w) ∙ sym (c .before .before .before .before .before .before .before .stuck .ensures) ∙ c .before .before .before .before .before .before .if2 .left) (eq-eqb _ _ (c .if4 .taken)))
+    let a = c .before .before .before .before .before .before .before .before .before .before .before .before .before .before .before .before .before .before .before .before .before .before .before .before .before .before .before .before .before .before .before .before .before .before .before .before .before .before .before .args in
+    let l = c .before .before .before .before .before .before .before .before .before .before .before .before .before .before .before .before .before .before .before .before .before .before .before .before .before .before .before .before .before .before .before .before .before .before .before .before .before .before .loop in
+    let z = c .before .before .before .before .before .before .before .before .before .before .before .before .before .before .before .before .before .before .before .before .before .before .zero-place in
+    let m = c .before .before .before .before .before .before .before .before .before .before .before .before .before .before .before .before .before .before .before .before .before .next in
+    let p = c .before .before .before .before .before .before .before .before .before .before .before .before .before .before .before .plan-of in
+    let e = sym (c .before .before .before .before .before .before .before .before .before .before .before .before .before .before .before .before .before .before .before .stuck .ensures) ∙ c .before .before .before .before .before .before .before .before .before .before .before .before .before .before .before .before .before .before .if2 .left in
+    let w = loads (l .u) (a .t) (m .result) (z .result) (z .ensures) (m .ensures) in
+    let f = stores (l .u) (a .t) (p .result) _ _ _ (c .before .before .before .before .before .before .before .before .before .before .before .stored .ensures) (c .before .before .before .before .before .before .before .stored2 .ensures) (c .before .before .before .stored3 .ensures)
+    ∙ planned (l .u) (a .t) (m .result) (z .result) (z .ensures) (m .ensures) (p .result) (p .ensures) e in
+    ap (λ (x : State). record { reply = Ends (l .k + 1) (threadAt (l .u) (a .t) .answer) (threadAt (l .u) (a .t) .commit); state = x }) f
+    ∙ sym (l .inv .1 .1 ∙ has-ended (a .s) (l .u) (a .t) (a .n) (l .k) (c .before .before .before .before .before .before .before .before .before .before .before .before .before .before .before .before .before .before .before .before .before .before .before .before .before .before .before .before .before .before .before .before .before .before .before .before .if1 .left) (ap stuck (sym w) ∙ e) (eq-eqb _ _ (c .if4 .taken)))
 
 pub take-steps-spec : {M : Type 1} → statement M
 take-steps-spec =
@@ -112,16 +258,58 @@ take-steps-spec =
     loop-holds
     mul-th
     element-copy-out-th
-    view-requires
+    cast-p
+    cast-b
+    cast-w
+    cast-x
+    cast-g
+    cast-o
+    cast-r
+    mul-t34
+    element-copy-out-t46
+    mul-t47
+    element-copy-out-t50
+    mul-t51
+    element-copy-out-t54
+    mul-t55
+    element-copy-out-t58
+    mul-t59
+    element-copy-out-t62
+    mul-t63
+    element-copy-out-t66
+    zero-place-requires
+    next-requires
+    cast-r-2
+    mul-reached
+    element-copy-out-reached
     stuck-requires
     refused-run-requires
+    returns
     waits-requires
     plan-of-requires
-    apply-requires
+    cast-a
+    mul-old
+    element-copy-out-old
+    stored-requires
+    mul-new
+    element-set-from-new
+    cast-d
+    mul-old-2
+    element-copy-out-old-2
+    stored-requires-2
+    mul-new-2
+    element-set-from-new-2
+    cast-e
+    mul-old-3
+    element-copy-out-old-3
+    stored-requires-3
+    mul-new-3
+    element-set-from-new-3
+    mul-after
+    element-set-from-after
     add-k
     loop-less
     loop-again
-    returns
     returns-2
     returns-3
     returns-4)
