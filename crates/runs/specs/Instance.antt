@@ -92,12 +92,12 @@ crossing =
     ++ plays 1 2 4 20
     ++ times 2 (steps 0)
 
--- "Skipping phase 18: G may itself have been spliced out": thread 0 looks for G again, key 1 is held once, and at the end 1 to 6 are listed
+-- "Skipping phase 18: G may itself have been spliced out": key 1 is held once, at the end 1 to 6 are listed, and thread 0 looks for G again
 pub record Crossed (s : State) : Type 0 where
-  pub phase : threadAt s 0 .phase ≡ 15
   pub count : holders s 1 ≡ 1
   pub list : keyListOf (afterMoves s (times 8 (steps 0))) ≡ Keys 126
+  pub phase : threadAt s 0 .phase ≡ 15
 
 pub crossed : Crossed (afterMoves (fresh crossSettings) crossing)
 unfolding computes one afterMove takesRoute passedBy passes passed howMany holders afterMoves logOf playLog times plays contended grown crossing
-crossed = record { phase = refl; count = refl; list = refl }
+crossed = record { count = refl; list = refl; phase = refl }
