@@ -9,7 +9,7 @@ use native.Mathlib.Numerals.{add-one}
 use borrow.Author.Tests.{lt-ltb, le-ltb, le-leb, lt-leb, ltb-false, not-true}
 use lib.Dec.{eqb}
 use lib.ListN.{length, take, drop, drop-of-length-le, length-drop, length-append}
-use lib.Seq.{drop-drop}
+use lib.Seq.{drop-drop, length-sets}
 use Rattle.rules.specs.State.{fresh}
 use Rattle.rules.specs.List.{keyListOf}
 use Rattle.rules.specs.Range.{inRange}
@@ -290,3 +290,38 @@ sheet-written file = all-calls turnOf file (λ room. turn-fits room file) (λ ro
 -- And so is what calls of `several` leave.
 pub several-written : (file : List ℕ) (cs : List Call) → Calls severalOf file opened cs → length file + 2 ≤ length cs → taken cs ≡ sheetOf file
 several-written file = all-calls severalOf file (λ room. several-fits room file) (λ room. several-on room file)
+
+-- ---- for a loop over the calls
+
+-- a play that began with `opened` stands at p
+pub record Playing (file : List ℕ) (p : Player) : Type 0 where
+  pub left : List ℕ
+  pub rest : Rest file p left
+
+pub playing-opened : (file : List ℕ) → Playing file opened
+playing-opened file = record { left = sheetOf file; rest = before refl refl }
+
+-- before the end a turn is left
+turn-left : {file : List ℕ} {p : Player} {xs : List ℕ} → Rest file p xs → (p .stage ≡ 2 → ⊥) → 1 ≤ turnsLeft file p
+unfolding turnsLeft opened
+turn-left (before e h) k = rw e (omega arith)
+turn-left (among at s e r h) k = rw e (omega arith)
+turn-left (ended at s e h) k = absurd (k (ap (λ (p : Player). p .stage) e))
+
+module _ {l k : List ℕ} {t : Turn} (file : List ℕ) (p : Player) (u : Turned (severalOf (length l) file p) l t k) where
+  -- a call writes no more than its room has
+  pub several-within : t .length ≤ length k
+  several-within =
+      omega (arith, ap (λ (r : Turn). r .length) (u .reply), several-fits (length l) file p, ap length (u .bytes), length-sets l 0 (severalOf (length l) file p .sheet))
+
+  -- it plays on
+  pub playing-on : 256 ≤ length l → Playing file p → Playing file (t .player)
+  playing-on wide a =
+      let b = several-on (length l) file wide p (a .left) (a .rest) in
+      record { left = b .left; rest = rw (ap (λ (r : Turn). r .player) (u .reply)) (b .rest) }
+
+  -- and comes nearer to the end
+  pub playing-less : 256 ≤ length l → Playing file p → (p .stage ≡ 2 → ⊥) → turnsLeft file (t .player) < turnsLeft file p
+  playing-less wide a h =
+      let b = several-on (length l) file wide p (a .left) (a .rest) in
+      rw (ap (λ (r : Turn). r .player) (u .reply)) (omega (arith, b .fewer, turn-left (a .rest) h))
