@@ -5,6 +5,7 @@ use mathlib.Core.Logic.{_⊎_, inl, inr}
 use mathlib.Core.Path.{_≡_, refl, sym}
 use Prim.Native.Nat.{ℕ, zero, suc}
 use lib.ListN.{getD}
+use Rattle.rules.specs.Refusals.{Refusal, first}
 
 -- both parts of a conjunction hold
 pub both : (a b : Bool) → (a && b) ≡ true → (a ≡ true) × (b ≡ true)
@@ -44,3 +45,15 @@ pick-by P false p q = q refl
 
 pub pick : {A : Type 0} (P : A → Type 0) (b : Bool) {x y : A} → P x → P y → P (cond b x y)
 pick P b p q = pick-by P b (λ e. p) (λ e. q)
+
+-- no refusal of a list applies
+abbrev pub None : List Refusal → Type 0
+None [] = Unit {0}
+None (r ∷ rs) = (r .applies ≡ false) × None rs
+
+-- what holds of each refusal, and of what is accepted where none applies, holds of the first that applies
+pub first-by : {A : Type 0} (P : A → Type 0) (rs : List Refusal) (refuse : ℕ → A) (accept : A)
+    → ((n : ℕ) → P (refuse n)) → (None rs → P accept) → P (first rs refuse accept)
+first-by P [] refuse accept p q = q tt
+first-by P (r ∷ rs) refuse accept p q =
+    pick-by P (r .applies) (λ e. p (r .number)) (λ e. first-by P rs refuse accept p (λ h. q (e, h)))

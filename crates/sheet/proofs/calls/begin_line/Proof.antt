@@ -27,14 +27,14 @@ same-length c = search needs
 
 returns : tie.Need-returns
 unfolding beginLine
-returns c = rw (← c .before .before .before .before .before .before .before .before .begin .ensures, c .before .before .before .before .before .enum-told .given .1) (c .before .before .wrote .ensures)
+returns c = rw (← c .before .before .before .before .before .before .before .before .begin .ensures .0, c .before .before .before .before .before .enum-told .given .1) (c .before .before .wrote .ensures)
 
 same-length-2 : tie.Need-same-length-2
 same-length-2 c = search needs
 
 returns-2 : tie.Need-returns-2
 unfolding beginLine
-returns-2 c = rw (← c .before .before .before .before .before .before .before .before .begin .ensures, c .before .before .before .before .before .reply .given .1) (c .before .before .refused .ensures)
+returns-2 c = rw (← c .before .before .before .before .before .before .before .before .begin .ensures .0, c .before .before .before .before .before .reply .given .1) (c .before .before .refused .ensures)
 
 pub begin-line-spec : {M : Type 1} → statement M
 begin-line-spec =

@@ -49,21 +49,21 @@ same-length c = search needs
 
 returns-3 : tie.Need-returns-3
 unfolding lineOf playForm
-returns-3 c = rw (le-ltb _ _ (c .before .before .before .before .before .before .before .before .before .before .if1 .left), ← c .before .before .before .before .before .before .before .before .before .in-range .ensures, c .before .before .before .before .before .before .before .before .if2 .left, ← c .before .before .before .before .before .before .before .line-form .ensures, c .before .before .before .before .before .form .given .1) (c .before .before .begin-line .ensures)
+returns-3 c = rw (le-ltb _ _ (c .before .before .before .before .before .before .before .before .before .before .if1 .left), ← c .before .before .before .before .before .before .before .before .before .in-range .ensures, c .before .before .before .before .before .before .before .before .if2 .left, ← c .before .before .before .before .before .before .before .line-form .ensures .0, c .before .before .before .before .before .form .given .1) (c .before .before .begin-line .ensures)
 
 same-length-2 : tie.Need-same-length-2
 same-length-2 c = search needs
 
 returns-4 : tie.Need-returns-4
 unfolding lineOf playForm
-returns-4 c = rw (le-ltb _ _ (c .before .before .before .before .before .before .before .before .before .before .if1 .left), ← c .before .before .before .before .before .before .before .before .before .in-range .ensures, c .before .before .before .before .before .before .before .before .if2 .left, ← c .before .before .before .before .before .before .before .line-form .ensures, c .before .before .before .before .before .form2 .given .1) (c .before .before .steps-line .ensures)
+returns-4 c = rw (le-ltb _ _ (c .before .before .before .before .before .before .before .before .before .before .if1 .left), ← c .before .before .before .before .before .before .before .before .before .in-range .ensures, c .before .before .before .before .before .before .before .before .if2 .left, ← c .before .before .before .before .before .before .before .line-form .ensures .0, c .before .before .before .before .before .form2 .given .1) (c .before .before .steps-line .ensures)
 
 same-length-3 : tie.Need-same-length-3
 same-length-3 c = search needs
 
 returns-5 : tie.Need-returns-5
 unfolding lineOf playForm
-returns-5 c = rw (le-ltb _ _ (c .before .before .before .before .before .before .before .before .before .if1 .left), ← c .before .before .before .before .before .before .before .before .in-range .ensures, c .before .before .before .before .before .before .before .if2 .left, ← c .before .before .before .before .before .before .line-form .ensures, c .before .before .before .before .enum-told .given .1) (c .before .before .refused .ensures)
+returns-5 c = rw (le-ltb _ _ (c .before .before .before .before .before .before .before .before .before .if1 .left), ← c .before .before .before .before .before .before .before .before .in-range .ensures, c .before .before .before .before .before .before .before .if2 .left, ← c .before .before .before .before .before .before .line-form .ensures .0, c .before .before .before .before .enum-told .given .1) (c .before .before .refused .ensures)
 
 pub line-spec : {M : Type 1} → statement M
 line-spec =

@@ -42,21 +42,21 @@ same-length c = search needs
 
 returns : tie.Need-returns
 unfolding runLine
-returns c = rw (← c .before .before .before .before .before .before .before .before .before .run .ensures, c .before .before .before .before .before .before .reply .given .1) (c .before .before .wrote .ensures)
+returns c = rw (← c .before .before .before .before .before .before .before .before .before .run .ensures .0, c .before .before .before .before .before .before .reply .given .1) (c .before .before .wrote .ensures)
 
 same-length-2 : tie.Need-same-length-2
 same-length-2 c = search needs
 
 returns-2 : tie.Need-returns-2
 unfolding runLine
-returns-2 c = rw (← c .before .before .before .before .before .before .before .before .before .run .ensures, c .before .before .before .before .before .before .reply2 .given .1) (c .before .before .wrote2 .ensures)
+returns-2 c = rw (← c .before .before .before .before .before .before .before .before .before .run .ensures .0, c .before .before .before .before .before .before .reply2 .given .1) (c .before .before .wrote2 .ensures)
 
 same-length-3 : tie.Need-same-length-3
 same-length-3 c = search needs
 
 returns-3 : tie.Need-returns-3
 unfolding runLine
-returns-3 c = rw (← c .before .before .before .before .before .before .before .before .run .ensures, c .before .before .before .before .before .reply3 .given .1) (c .before .before .refused .ensures)
+returns-3 c = rw (← c .before .before .before .before .before .before .before .before .run .ensures .0, c .before .before .before .before .before .reply3 .given .1) (c .before .before .refused .ensures)
 
 pub steps-line-spec : {M : Type 1} → statement M
 steps-line-spec =
