@@ -2,8 +2,12 @@
 use mathlib.Core.Bool.{Bool, true, false, cond, _&&_, _||_, true≢false}
 use mathlib.Core.List.{List, [], _∷_, map}
 use mathlib.Core.Logic.{_⊎_, inl, inr}
-use mathlib.Core.Path.{_≡_, refl, sym}
-use Prim.Native.Nat.{ℕ, zero, suc}
+use mathlib.Core.Path.{_≡_, refl, sym, ap, _∙_}
+use Prim.Native.Nat.{ℕ, zero, suc, _<_}
+use native.Mathlib.Nat.{not-suc-le-zero}
+use native.Mathlib.Omega.{arith}
+use borrow.Author.Tests.{eqb-true, eqb-false}
+use lib.Dec.{eqb}
 use lib.ListN.{getD}
 use Rattle.rules.specs.Refusals.{Refusal, first}
 
@@ -57,3 +61,17 @@ pub first-by : {A : Type 0} (P : A → Type 0) (rs : List Refusal) (refuse : ℕ
 first-by P [] refuse accept p q = q tt
 first-by P (r ∷ rs) refuse accept p q =
     pick-by P (r .applies) (λ e. p (r .number)) (λ e. first-by P rs refuse accept p (λ h. q (e, h)))
+
+-- a test holds for each number below a bound
+abbrev pub allBelow : ℕ → (ℕ → Bool) → Bool
+allBelow zero test = true
+allBelow (suc n) test = test n && allBelow n test
+
+-- and so for any one of them
+pub allBelow-at : (n : ℕ) (test : ℕ → Bool) → allBelow n test ≡ true → (p : ℕ) → p < n → test p ≡ true
+allBelow-at zero test h p l = absurd (not-suc-le-zero l)
+allBelow-at (suc n) test h p l = let b = both (test n) (allBelow n test) h in go (eqb p n) refl (b .0) (allBelow-at n test (b .1) p)
+  where
+    go : (e : Bool) → eqb p n ≡ e → test n ≡ true → (p < n → test p ≡ true) → test p ≡ true
+    go true e here rest = ap test (eqb-true p n e) ∙ here
+    go false e here rest = let d = eqb-false p n e in rest (omega arith)
