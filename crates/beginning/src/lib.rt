@@ -11,7 +11,9 @@ use rules::state::State;
 ghost use mathlib.Core.Path.{_≡_};
 ghost use Prim.Native.Nat.{_<_};
 ghost use Rattle.rules.specs.State.{unmade};
-ghost use Rattle.rules.specs.Step.{zeroSettings, freshOf, begun, beginIn, beginOf};
+ghost use Rattle.rules.specs.Refusals.{refusalOf};
+ghost use Rattle.rules.specs.Step.{zeroSettings, freshOrder, freshOf, begun, beginIn, beginOrder, beginOf};
+ghost use Rattle.rules.specs.Answers.{freshNumber, beginNumber};
 
 // A place that is not made.
 fn unmade() -> Place
@@ -50,7 +52,8 @@ fn fresh_state(c: Settings) -> State
 
 // A fresh state with settings that are in range, or 2; `low` is how far min lies below 0. A refused call has the fresh state of settings 0.
 pub fn fresh(succ: u32, fail: u32, low: u32, max: u32) -> Fresh
-    ensures { λ r. ⌜ r ≡ freshOf (record { succ = succ; fail = fail; low = low; max = max }) ⌝ }
+    ensures answer { λ r. ⌜ r ≡ freshOf (record { succ = succ; fail = fail; low = low; max = max }) ⌝ }
+    ensures number { λ r. ⌜ freshNumber (r .reply) ≡ refusalOf (freshOrder (record { succ = succ; fail = fail; low = low; max = max })) ⌝ }
 {
     let c = Settings {
         succ,
@@ -130,7 +133,8 @@ pub fn begin_in(s: State, t: u32, o: u32, k: u32) -> Begin
 
 // Begin operation `o` on key `k` in thread `t`.
 pub fn begin(s: State, t: u32, o: u32, k: u32) -> Begin
-    ensures { λ r. ⌜ r ≡ beginOf s t o k ⌝ }
+    ensures answer { λ r. ⌜ r ≡ beginOf s t o k ⌝ }
+    ensures number { λ r. ⌜ beginNumber (r .reply) ≡ refusalOf (beginOrder s t o k) ⌝ }
 {
     if !range::in_range(s) {
         return refused_begin(s, 7);

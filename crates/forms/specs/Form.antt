@@ -1,12 +1,13 @@
 -- "Schedule and key sheet": the forms of the schedule's lines.
-use mathlib.Core.Bool.{Bool, true, false, cond, not, _&&_}
+use mathlib.Core.Bool.{Bool, true, false, cond, not, _&&_, _||_}
 use mathlib.Core.List.{List, [], _∷_}
-use mathlib.Core.Path.{_≡_, refl}
+use mathlib.Core.Path.{_≡_, refl, ap, _∙_}
 use Prim.Native.Nat.{ℕ}
 use native.Mathlib.Omega.{arith}
 use lib.Dec.{eqb}
 use lib.ListN.{length, getD, drop}
 use Rattle.rules.specs.Range.{settingsInRange}
+use Rattle.rules.specs.Refusals.{Refusal, _if_, first, refusalOf}
 use Rattle.rules.specs.declared.state.Settings.{Settings}
 use Rattle.text.specs.Text.{minus, fields, isLetter, isNumber, value, valueIf}
 use Rattle.text.specs.declared.Number.{Number}
@@ -89,7 +90,7 @@ lineForm l =
     (Line.the-variants.Begin (value (field (fields l) 1)) (operationOf (field (fields l) 2)) (value (field (fields l) 3)))
     (cond (isSteps (fields l)) (Line.the-variants.Steps (value (field (fields l) 1)) (value (field (fields l) 2))) Line.the-variants.Slip)
 
--- ---- document 01's number and values for each case of the two answers
+-- ---- document 01's number and values for each case of the two answers, and what the line says that they are
 
 -- "2 the first line is .. not a settings line in range"
 abbrev pub firstNumber : First.First → ℕ
@@ -100,6 +101,15 @@ firstNumber First.the-variants.Slip = 2
 abbrev pub firstValues : First.First → List ℕ
 firstValues (First.the-variants.Settings c) = c .succ ∷ c .fail ∷ c .low ∷ c .max ∷ []
 firstValues First.the-variants.Slip = []
+
+-- "2 the first line is .. not a settings line in range": not one, or not in range
+abbrev pub firstOrder : List ℕ → List Refusal
+firstOrder l = (2 if not (isFirst (fields l))) ∷ (2 if not (settingsInRange (settingsOf (fields l)))) ∷ []
+
+-- the values of an accepted first line: `R succ fail min max`
+abbrev pub firstSays : List ℕ → List ℕ
+firstSays l =
+    value (field (fields l) 1) ∷ value (field (fields l) 2) ∷ lowOf (field (fields l) 3) ∷ value (field (fields l) 4) ∷ []
 
 -- "1 a line .. is not of the forms"
 abbrev pub lineNumber : Line.Line → ℕ
@@ -112,6 +122,16 @@ abbrev pub lineValues : Line.Line → List ℕ
 lineValues (Line.the-variants.Begin t o k) = t ∷ o ∷ k ∷ []
 lineValues (Line.the-variants.Steps t n) = t ∷ n ∷ []
 lineValues Line.the-variants.Slip = []
+
+-- "1 a line .. is not of the forms"
+abbrev pub lineOrder : List ℕ → List Refusal
+lineOrder l = (1 if not (isBegin (fields l) || isSteps (fields l))) ∷ []
+
+-- the values of an accepted line: `B thread op key`, else `S thread n`
+abbrev pub lineSays : List ℕ → List ℕ
+lineSays l =
+    cond (isBegin (fields l)) (value (field (fields l) 1) ∷ operationOf (field (fields l) 2) ∷ value (field (fields l) 3) ∷ [])
+    (value (field (fields l) 1) ∷ value (field (fields l) 2) ∷ [])
 
 -- the settings of an accepted line are in range
 pub first-in-range : (l : List ℕ) (c : Settings) → firstForm l ≡ First.the-variants.Settings c → settingsInRange c ≡ true
@@ -126,3 +146,39 @@ first-in-range l c e = go (settingsForm (fields l)) e
             → cond t (First.the-variants.Settings d) First.the-variants.Slip ≡ First.the-variants.Settings c → settingsInRange c ≡ true
         at true h k = let s : d ≡ c = cc in rw s at h
         at false h k = let z : _≡_ {A = ℕ} 0 1 = cc in absurd (omega arith)
+
+-- with the answer on a first line, its number by the order and its values by the line
+pub first-says : (l : List ℕ) (r : First.First) → r ≡ firstForm l
+    → (r ≡ firstForm l) × ((firstNumber r ≡ refusalOf (firstOrder l)) × (firstValues r ≡ first (firstOrder l) (λ n. []) (firstSays l)))
+unfolding firstForm ranged settingsForm settingsOf
+first-says l r e = let b = by (isFirst (fields l)) (settingsOf (fields l)) in (e, (ap firstNumber e ∙ b .0, ap firstValues e ∙ b .1))
+  where
+    at : (c : Settings) (t : Bool)
+        → (firstNumber (cond t (First.the-variants.Settings c) First.the-variants.Slip) ≡ cond (not t) 2 0)
+        × (firstValues (cond t (First.the-variants.Settings c) First.the-variants.Slip) ≡ cond (not t) [] (c .succ ∷ c .fail ∷ c .low ∷ c .max ∷ []))
+    at c true = (refl, refl)
+    at c false = (refl, refl)
+
+    by : (t : Bool) (c : Settings)
+        → (firstNumber (ranged (cond t (First.the-variants.Settings c) First.the-variants.Slip)) ≡ cond (not t) 2 (cond (not (settingsInRange c)) 2 0))
+        × (firstValues (ranged (cond t (First.the-variants.Settings c) First.the-variants.Slip))
+        ≡ cond (not t) [] (cond (not (settingsInRange c)) [] (c .succ ∷ c .fail ∷ c .low ∷ c .max ∷ [])))
+    by true c = at c (settingsInRange c)
+    by false c = (refl, refl)
+
+-- with the answer on another line, its number by the order and its values by the line
+pub line-says : (l : List ℕ) (r : Line.Line) → r ≡ lineForm l
+    → (r ≡ lineForm l) × ((lineNumber r ≡ refusalOf (lineOrder l)) × (lineValues r ≡ first (lineOrder l) (λ n. []) (lineSays l)))
+unfolding lineForm
+line-says l r e =
+    let v : ℕ → ℕ = λ i. value (field (fields l) i) in
+    let b = by (isBegin (fields l)) (isSteps (fields l)) (v 1) (operationOf (field (fields l) 2)) (v 3) (v 1) (v 2) in
+    (e, (ap lineNumber e ∙ b .0, ap lineValues e ∙ b .1))
+  where
+    by : (a b : Bool) (t o k s n : ℕ)
+        → (lineNumber (cond a (Line.the-variants.Begin t o k) (cond b (Line.the-variants.Steps s n) Line.the-variants.Slip)) ≡ cond (not (a || b)) 1 0)
+        × (lineValues (cond a (Line.the-variants.Begin t o k) (cond b (Line.the-variants.Steps s n) Line.the-variants.Slip))
+        ≡ cond (not (a || b)) [] (cond a (t ∷ o ∷ k ∷ []) (s ∷ n ∷ [])))
+    by true b t o k s n = (refl, refl)
+    by false true t o k s n = (refl, refl)
+    by false false t o k s n = (refl, refl)

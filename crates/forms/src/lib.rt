@@ -2,9 +2,11 @@
 use rules::state::Settings;
 use text::Number;
 ghost use mathlib.Core.Path.{_≡_};
+ghost use mathlib.Core.List.{[]};
 ghost use lib.ListN.{length};
+ghost use Rattle.rules.specs.Refusals.{first, refusalOf};
 ghost use Rattle.text.specs.Text.{fields};
-ghost use Rattle.forms.specs.Form.{field, belowRead, lowRead, settingsForm, firstForm, operationRead, lineForm};
+ghost use Rattle.forms.specs.Form.{field, belowRead, lowRead, settingsForm, firstForm, operationRead, lineForm, firstNumber, firstValues, firstOrder, firstSays, lineNumber, lineValues, lineOrder, lineSays};
 
 // The first line.
 pub enum First {
@@ -93,7 +95,9 @@ fn settings_form(line: &[u8]) -> First
 
 // What the first line says.
 pub fn first_form(line: &[u8]) -> First
-    ensures { λ r. ⌜ r ≡ firstForm (now (line .entry)) ⌝ }
+    ensures answer { λ r. ⌜ r ≡ firstForm (now (line .entry)) ⌝ }
+    ensures number { λ r. ⌜ firstNumber r ≡ refusalOf (firstOrder (now (line .entry))) ⌝ }
+    ensures values { λ r. ⌜ firstValues r ≡ first (firstOrder (now (line .entry))) (λ n. []) (firstSays (now (line .entry))) ⌝ }
 {
     if reading::field_count(line) != 5 {
         return First::Slip;
@@ -166,7 +170,9 @@ fn steps_form(line: &[u8]) -> Line
 
 // What a line other than the first says.
 pub fn line_form(line: &[u8]) -> Line
-    ensures { λ r. ⌜ r ≡ lineForm (now (line .entry)) ⌝ }
+    ensures answer { λ r. ⌜ r ≡ lineForm (now (line .entry)) ⌝ }
+    ensures number { λ r. ⌜ lineNumber r ≡ refusalOf (lineOrder (now (line .entry))) ⌝ }
+    ensures values { λ r. ⌜ lineValues r ≡ first (lineOrder (now (line .entry))) (λ n. []) (lineSays (now (line .entry))) ⌝ }
 {
     let count = reading::field_count(line);
     if count == 4 {

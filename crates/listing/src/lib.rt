@@ -7,7 +7,11 @@ use rules::state::State;
 ghost use mathlib.Core.Path.{_≡_};
 ghost use Prim.Native.Nat.{_<_};
 ghost use Rattle.listing.specs.Gathered.{Counted, Gathered};
-ghost use Rattle.rules.specs.List.{unmet, again, meets, lists, reached, keyListOf};
+ghost use mathlib.Core.List.{[]};
+ghost use Rattle.keys.specs.Keys.{listOf};
+ghost use Rattle.rules.specs.Refusals.{first, refusalOf};
+ghost use Rattle.rules.specs.List.{unmet, again, meets, lists, reached, listOrder, keyListOf};
+ghost use Rattle.rules.specs.Answers.{listNumber, listValues};
 
 // Nothing is met yet.
 fn unmet() -> Met
@@ -89,7 +93,9 @@ fn reached(s: State) -> Met
 
 // The keys of the bases reachable from the root.
 pub fn key_list(s: State) -> ListReply
-    ensures { λ r. ⌜ r ≡ keyListOf s ⌝ }
+    ensures answer { λ r. ⌜ r ≡ keyListOf s ⌝ }
+    ensures number { λ r. ⌜ listNumber r ≡ refusalOf (listOrder s) ⌝ }
+    ensures values { λ r. ⌜ listValues r ≡ first (listOrder s) (λ n. []) (listOf (reached s .keys)) ⌝ }
 {
     if !range::in_range(s) {
         return ListReply::Refused { number: 7 };

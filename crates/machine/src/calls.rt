@@ -7,7 +7,10 @@ use rules::row::Plan;
 use rules::state::State;
 use rules::state::Thread;
 ghost use mathlib.Core.Path.{_≡_};
-ghost use Rattle.rules.specs.Step.{stepOf};
+ghost use mathlib.Core.List.{[]};
+ghost use Rattle.rules.specs.Refusals.{first, refusalOf};
+ghost use Rattle.rules.specs.Step.{stepOrder, stepOf};
+ghost use Rattle.rules.specs.Answers.{stepNumber, stepValues, stepSays};
 
 fn refused_step(s: State, number: u8) -> Step
     ensures { λ r. ⌜ r ≡ Rattle.rules.specs.Step.refusedStep s number ⌝ }
@@ -35,7 +38,9 @@ fn reply_of(t: Thread, p: Plan) -> StepReply
 
 // The next step of thread `t`.
 pub fn step(s: State, t: u32) -> Step
-    ensures { λ r. ⌜ r ≡ stepOf s t ⌝ }
+    ensures answer { λ r. ⌜ r ≡ stepOf s t ⌝ }
+    ensures number { λ r. ⌜ stepNumber (r .reply) ≡ refusalOf (stepOrder s t) ⌝ }
+    ensures values { λ r. ⌜ stepValues (r .reply) ≡ first (stepOrder s t) (λ n. []) (stepSays s t) ⌝ }
 {
     if !range::in_range(s) {
         return refused_step(s, 7);

@@ -8,7 +8,10 @@ use rules::state::State;
 ghost use mathlib.Core.Path.{_≡_};
 ghost use Prim.Native.Nat.{_<_, _≤_};
 ghost use Rattle.states.specs.Waits.{waits};
-ghost use Rattle.rules.specs.Step.{refusedRun, steps, runIn, runOf};
+ghost use mathlib.Core.List.{[]};
+ghost use Rattle.rules.specs.Refusals.{first, refusalOf};
+ghost use Rattle.rules.specs.Step.{refusedRun, steps, runIn, runOrder, runOf};
+ghost use Rattle.rules.specs.Answers.{runNumber, runValues, runSays};
 
 fn refused_run(s: State, number: u8) -> Run
     ensures { λ r. ⌜ r ≡ refusedRun s number ⌝ }
@@ -140,7 +143,9 @@ pub fn run_in(s: State, t: u32, n: u32) -> Run
 
 // Take `n` steps of thread `t`, or fewer if the operation ends.
 pub fn run(s: State, t: u32, n: u32) -> Run
-    ensures { λ r. ⌜ r ≡ runOf s t n ⌝ }
+    ensures answer { λ r. ⌜ r ≡ runOf s t n ⌝ }
+    ensures number { λ r. ⌜ runNumber (r .reply) ≡ refusalOf (runOrder s t n) ⌝ }
+    ensures values { λ r. ⌜ runValues (r .reply) ≡ first (runOrder s t n) (λ m. []) (runSays s t n) ⌝ }
 {
     if !range::in_range(s) {
         return refused_run(s, 7);

@@ -36,3 +36,4 @@ pub mod Reached
 pub mod Refusal
 pub mod WalkRows
 pub mod Bounded
+pub mod Stays

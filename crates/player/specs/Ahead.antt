@@ -133,10 +133,10 @@ module _ {o : Out} {l k : List ℕ} {number used at : ℕ} {s : State} (file : L
       ∙ ap (λ (q : Out). turnsOf n (length l) file (behind o q)) next-turn
 
 -- a line leaves a state in range
-pub line-in-range : {k k′ : List ℕ} {a : Answer} (room : ℕ) (s : State) (l : List ℕ) → inRange s ≡ true → Called (lineOf room s l) k a k′
+pub line-inner : {k k′ : List ℕ} {a : Answer} (room : ℕ) (s : State) (l : List ℕ) → inRange s ≡ true → Called (lineOf room s l) k a k′
     → inRange (a .state) ≡ true
 unfolding lineOf
-line-in-range room s l r c = rw (c .reply) (go (narrow room))
+line-inner room s l r c = rw (c .reply) (go (narrow room))
   where
     go : (t : Bool) → inRange (cond t (silent s 9) (cond (not (inRange s)) (silent s 7) (playForm s (lineForm l))) .state) ≡ true
     go true = r

@@ -5,7 +5,7 @@ ghost use mathlib.Core.List.{[]};
 ghost use mathlib.Core.Bool.{true};
 ghost use Prim.Native.Nat.{_≤_};
 ghost use lib.ListN.{length, getD};
-ghost use Rattle.text.specs.Text.{until, fields, isLetter, digits, value, isNumber, numberOf};
+ghost use Rattle.text.specs.Text.{until, fields, isLetter, digits, value, isNumber, numberOf, numberValues, numberSays};
 
 // The index of the first b, or the length where there is none.
 pub fn until(text: &[u8], b: u8) -> usize
@@ -115,7 +115,8 @@ fn is_number(part: &[u8]) -> bool
 
 // What a part says as a number.
 pub fn number_of(part: &[u8]) -> Number
-    ensures { λ r. ⌜ r ≡ numberOf (now (part .entry)) ⌝ }
+    ensures answer { λ r. ⌜ r ≡ numberOf (now (part .entry)) ⌝ }
+    ensures values { λ r. ⌜ numberValues r ≡ numberSays (now (part .entry)) ⌝ }
 {
     if is_number(part) {
         Number::Value { value: value(part) }
@@ -126,7 +127,8 @@ pub fn number_of(part: &[u8]) -> Number
 
 // What field i of a line says as a number.
 pub fn number_at(text: &[u8], i: usize) -> Number
-    ensures { λ r. ⌜ r ≡ numberOf (getD (fields (now (text .entry))) i []) ⌝ }
+    ensures answer { λ r. ⌜ r ≡ numberOf (getD (fields (now (text .entry))) i []) ⌝ }
+    ensures values { λ r. ⌜ numberValues r ≡ numberSays (getD (fields (now (text .entry))) i []) ⌝ }
 {
     number_of(field(text, i))
 }

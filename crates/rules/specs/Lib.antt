@@ -4,6 +4,7 @@ pub mod Places
 pub mod Rows
 pub mod Needs
 pub mod Range
+pub mod Refusals
 pub mod Step
 pub mod List
 pub mod Follow

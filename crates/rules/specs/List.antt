@@ -1,11 +1,12 @@
 -- "Reachable bases are listed from the left child down to each leaf, then the right."
-use mathlib.Core.Bool.{true, false, cond, not}
-use mathlib.Core.List.{List}
+use mathlib.Core.Bool.{true, false, not}
+use mathlib.Core.List.{List, [], _∷_}
 use Prim.Native.Nat.{ℕ, zero, suc, _-_, _%_}
 use lib.ListN.{getD, set, replicate}
 use Rattle.keys.specs.Keys.{union}
 use Rattle.rules.specs.State.{zeroPlace}
 use Rattle.rules.specs.Range.{inRange}
+use Rattle.rules.specs.Refusals.{Refusal, _if_, first}
 use Rattle.rules.specs.declared.state.Body.the-variants.{Base, Route}
 use Rattle.rules.specs.declared.state.Place.{Place}
 use Rattle.rules.specs.declared.state.State.{State}
@@ -51,5 +52,9 @@ unfoldable pub reached : State → Met
 reached s = gather 129 (s .places) (s .root) unmet
 
 -- "key list 7, 8"
+abbrev pub listOrder : State → List Refusal
+listOrder s = (7 if not (inRange s)) ∷ (8 if reached s .twice) ∷ []
+
+-- the key list
 unfoldable pub keyListOf : State → ListReply
-keyListOf s = cond (not (inRange s)) (Refused 7) (cond (reached s .twice) (Refused 8) (Keys (reached s .keys)))
+keyListOf s = first (listOrder s) Refused (Keys (reached s .keys))

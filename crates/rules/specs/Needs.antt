@@ -58,32 +58,32 @@ commitable v = ltb (v .committed) (v .begun) && (aboveMax v || not (belowMin v) 
 -- what the row at each phase needs of the registers that it names without first setting them, and of the counts
 unfoldable pub needs : List (View → Bool)
 needs =
-    (λ v. true)
-    ∷ (λ v. true)
-    ∷ routeWalk
-    ∷ baseB
-    ∷ baseB
-    ∷ (λ v. baseB v && (not (v .base .valid) || commitable v))
-    ∷ (λ v. baseB v && leb 2 (size (keysOf (v .base))))
-    ∷ (λ v. baseB v && noneOrP v && route (v .thread .made) (v .own))
-    ∷ baseB
-    ∷ (λ v. routeP v && baseB v)
-    ∷ routeWalk
-    ∷ (λ v. base (v .thread .walk) (v .walk) && baseB v)
-    ∷ (λ v. baseN v && baseB v)
-    ∷ routeP
-    ∷ (λ v. routeP v && baseN v && baseB v)
-    ∷ routeP
-    ∷ (λ v. routeWalk v && routeP v)
-    ∷ routeG
-    ∷ routeG
-    ∷ (λ v. routeP v && noneOrG v)
-    ∷ (λ v. routeP v && noneOrG v)
-    ∷ (λ v. routeP v && baseN v && noneOrG v)
-    ∷ routeWalk
-    ∷ (λ v. base (v .thread .made) (v .own) && baseN v && maybeRoute (v .thread .walk) (v .walk))
-    ∷ baseN
-    ∷ baseB
+    (λ v. true)  -- 0
+    ∷ (λ v. true)  -- 1
+    ∷ routeWalk  -- 2
+    ∷ baseB  -- 3
+    ∷ baseB  -- 4
+    ∷ (λ v. baseB v && (not (v .base .valid) || commitable v))  -- 5
+    ∷ (λ v. baseB v && leb 2 (size (keysOf (v .base))))  -- 6
+    ∷ (λ v. baseB v && noneOrP v && route (v .thread .made) (v .own))  -- 7
+    ∷ baseB  -- 8
+    ∷ (λ v. routeP v && baseB v)  -- 9
+    ∷ routeWalk  -- 10
+    ∷ (λ v. base (v .thread .walk) (v .walk) && baseB v)  -- 11
+    ∷ (λ v. baseN v && baseB v)  -- 12
+    ∷ routeP  -- 13
+    ∷ (λ v. routeP v && baseN v && baseB v)  -- 14
+    ∷ routeP  -- 15
+    ∷ (λ v. routeWalk v && routeP v)  -- 16
+    ∷ routeG  -- 17
+    ∷ routeG  -- 18
+    ∷ (λ v. routeP v && noneOrG v)  -- 19
+    ∷ (λ v. routeP v && noneOrG v)  -- 20
+    ∷ (λ v. routeP v && baseN v && noneOrG v)  -- 21
+    ∷ routeWalk  -- 22
+    ∷ (λ v. base (v .thread .made) (v .own) && baseN v && maybeRoute (v .thread .walk) (v .walk))  -- 23
+    ∷ baseN  -- 24
+    ∷ baseB  -- 25
     ∷ []
 
 -- a phase above 25 needs nothing: no row stands there

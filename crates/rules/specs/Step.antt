@@ -1,6 +1,6 @@
 -- Begin, step and counted steps: what each call answers, and the state after.
 use mathlib.Core.Bool.{Bool, true, false, cond, not}
-use mathlib.Core.List.{List}
+use mathlib.Core.List.{List, [], _∷_, _++_}
 use Prim.Native.Nat.{ℕ, zero, suc, _+_}
 use lib.Dec.{ltb, leb, eqb}
 use lib.ListN.{set}
@@ -10,6 +10,7 @@ use Rattle.rules.specs.Places.{childOn, childBy}
 use Rattle.rules.specs.Rows.{farSide, nearChild, planOf}
 use Rattle.rules.specs.Needs.{stuck}
 use Rattle.rules.specs.Range.{settingsInRange, inRange}
+use Rattle.rules.specs.Refusals.{Refusal, _if_, first}
 use Rattle.rules.specs.declared.state.Settings.{Settings}
 use Rattle.rules.specs.declared.state.Place.{Place}
 use Rattle.rules.specs.declared.state.Thread.{Thread}
@@ -32,11 +33,17 @@ use Rattle.rules.specs.declared.answer.RunReply as RunReply
 unfoldable pub zeroSettings : Settings
 zeroSettings = record { succ = 0; fail = 0; low = 0; max = 0 }
 
--- a fresh state, or 2 "a fresh state is asked for with settings out of range"
+-- "2 .. a fresh state is asked for with settings out of range"
+abbrev pub freshOrder : Settings → List Refusal
+freshOrder c = (2 if not (settingsInRange c)) ∷ []
+
+-- there is no state before to be left: the fresh state of settings of four zeros
+abbrev pub refusedFresh : ℕ → Fresh
+refusedFresh n = record { reply = FreshReply.the-variants.Refused n; state = fresh zeroSettings }
+
+-- a fresh state
 unfoldable pub freshOf : Settings → Fresh
-freshOf c =
-    cond (settingsInRange c) (record { reply = FreshReply.the-variants.Made; state = fresh c })
-    (record { reply = FreshReply.the-variants.Refused 2; state = fresh zeroSettings })
+freshOf c = first (freshOrder c) refusedFresh (record { reply = FreshReply.the-variants.Made; state = fresh c })
 
 -- ---- begin
 
@@ -61,18 +68,24 @@ begun s t o k = withThread s (s .begun + 1) t (setOperation o k (threadAt s t))
 abbrev pub refusedBegin : State → ℕ → Begin
 refusedBegin s n = record { reply = BeginReply.the-variants.Refused n; state = s }
 
--- begin in a state that is in range: "1, 3, 4, 5, 11"
-abbrev pub beginIn : State → ℕ → ℕ → ℕ → Begin
-beginIn s t o k =
-    cond (ltb 2 o) (refusedBegin s 1)
-    (cond (ltb 7 t) (refusedBegin s 3)
-    (cond (ltb 63 k) (refusedBegin s 4)
-    (cond (not (eqb (threadAt s t .phase) 0)) (refusedBegin s 5)
-    (cond (leb 1000000 (s .begun)) (refusedBegin s 11) (record { reply = BeginReply.the-variants.Begun; state = begun s t o k })))))
+-- what begin is refused with behind 7: 1, 3, 4, 5, 11
+abbrev pub beginRest : State → ℕ → ℕ → ℕ → List Refusal
+beginRest s t o k =
+    (1 if ltb 2 o) ∷ (3 if ltb 7 t) ∷ (4 if ltb 63 k) ∷ (5 if not (eqb (threadAt s t .phase) 0)) ∷ (11 if leb 1000000 (s .begun)) ∷ []
 
 -- "Order: begin 7, 1, 3, 4, 5, 11"
+abbrev pub beginOrder : State → ℕ → ℕ → ℕ → List Refusal
+beginOrder s t o k = (7 if not (inRange s)) ∷ beginRest s t o k
+
+-- begin without the range test
+abbrev pub beginIn : State → ℕ → ℕ → ℕ → Begin
+beginIn s t o k =
+    first (beginRest s t o k) (refusedBegin s) (record { reply = BeginReply.the-variants.Begun; state = begun s t o k })
+
+-- begin
 unfoldable pub beginOf : State → ℕ → ℕ → ℕ → Begin
-beginOf s t o k = cond (not (inRange s)) (refusedBegin s 7) (beginIn s t o k)
+beginOf s t o k =
+    first (beginOrder s t o k) (refusedBegin s) (record { reply = BeginReply.the-variants.Begun; state = begun s t o k })
 
 -- ---- one step
 
@@ -167,12 +180,13 @@ unfoldable pub replyOf : State → ℕ → StepReply.StepReply
 replyOf s t = replyFrom (threadAt s t) (planOf (viewOf s t))
 
 -- "Order: .. step 7, 3, 6, 8"
+abbrev pub stepOrder : State → ℕ → List Refusal
+stepOrder s t =
+    (7 if not (inRange s)) ∷ (3 if ltb 7 t) ∷ (6 if eqb (threadAt s t .phase) 0) ∷ (8 if stuck (viewOf s t)) ∷ []
+
+-- one step
 unfoldable pub stepOf : State → ℕ → Step
-stepOf s t =
-    cond (not (inRange s)) (refusedStep s 7)
-    (cond (ltb 7 t) (refusedStep s 3)
-    (cond (eqb (threadAt s t .phase) 0) (refusedStep s 6)
-    (cond (stuck (viewOf s t)) (refusedStep s 8) (record { reply = replyOf s t; state = after s t }))))
+stepOf s t = first (stepOrder s t) (refusedStep s) (record { reply = replyOf s t; state = after s t })
 
 -- ---- counted steps
 
@@ -194,22 +208,27 @@ steps (suc n) from s t taken =
           ]
     ]
 
--- counted steps in a state that is in range: "3, .. 10, .. 6, .. 8 as they apply"
-abbrev pub runIn : State → ℕ → ℕ → Run
-runIn s t n =
-    elim (ltb 7 t) [
-      | true ↦ refusedRun s 3
-      | false ↦
-          elim (eqb n 0) [
-            | true ↦ refusedRun s 10
-            | false ↦
-                elim (ltb 1000 n) [
-                  | true ↦ refusedRun s 10
-                  | false ↦ elim (eqb (threadAt s t .phase) 0) [ true ↦ refusedRun s 6 | false ↦ steps n s s t 0 ]
-                ]
-          ]
-    ]
+-- what counted steps are refused with behind 7 and before the first step, by the order of lines as it applies to them: 3, 10, 6
+abbrev pub runRest : State → ℕ → ℕ → List Refusal
+runRest s t n = (3 if ltb 7 t) ∷ (10 if eqb n 0) ∷ (10 if ltb 1000 n) ∷ (6 if eqb (threadAt s t .phase) 0) ∷ []
 
--- "then 3, 4, 10, 5, 6, 11, 8 as they apply"
+-- what they are refused with before the first step: 7, 3, 10, 6
+abbrev pub runTests : State → ℕ → ℕ → List Refusal
+runTests s t n = (7 if not (inRange s)) ∷ runRest s t n
+
+-- counted steps without the range test
+abbrev pub runIn : State → ℕ → ℕ → Run
+runIn s t n = first (runRest s t n) (refusedRun s) (steps n s s t 0)
+
+-- counted steps
 unfoldable pub runOf : State → ℕ → ℕ → Run
-runOf s t n = elim (not (inRange s)) [ true ↦ refusedRun s 7 | false ↦ runIn s t n ]
+runOf s t n = first (runTests s t n) (refusedRun s) (steps n s s t 0)
+
+-- "If 8 comes inside a counted line": one of the next n steps is stuck, and the operation does not end before it
+unfoldable pub stuckWithin : ℕ → State → ℕ → Bool
+stuckWithin zero s t = false
+stuckWithin (suc n) s t = cond (stuck (viewOf s t)) true (cond (ends (threadAt s t)) false (stuckWithin n (after s t) t))
+
+-- the order of counted steps, 7, 3, 10, 6, 8: that of a line without the numbers that do not apply to them
+abbrev pub runOrder : State → ℕ → ℕ → List Refusal
+runOrder s t n = runTests s t n ++ ((8 if stuckWithin n s t) ∷ [])

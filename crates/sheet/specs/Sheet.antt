@@ -4,18 +4,17 @@ use mathlib.Core.List.{List, [], _∷_, _++_}
 use Prim.Native.Nat.{ℕ}
 use lib.Dec.{ltb}
 use lib.ListN.{length}
-use Rattle.keys.specs.Keys.{listOf}
 use Rattle.rules.specs.State.{fresh}
 use Rattle.rules.specs.Range.{inRange}
 use Rattle.rules.specs.Step.{zeroSettings, beginIn, beginOf, runIn, runOf}
 use Rattle.rules.specs.List.{keyListOf}
+use Rattle.rules.specs.Answers.{beginNumber, runNumber, runValues, listNumber, listValues}
 use Rattle.rules.specs.declared.state.State.{State}
-use Rattle.rules.specs.declared.answer.Begin.{Begin}
 use Rattle.rules.specs.declared.answer.BeginReply as BeginReply
 use Rattle.rules.specs.declared.answer.RunReply as RunReply
 use Rattle.rules.specs.declared.answer.ListReply as ListReply
 use Rattle.text.specs.Text.{lines, sheetLine, keysLine}
-use Rattle.forms.specs.Form.{firstForm, lineForm}
+use Rattle.forms.specs.Form.{firstForm, lineForm, firstNumber, lineNumber}
 use Rattle.forms.specs.declared.First as First
 use Rattle.forms.specs.declared.Line as Line
 
@@ -46,21 +45,29 @@ abbrev pub narrow : ℕ → Bool
 narrow room = ltb room 256
 
 -- Sheet: `B thread`
+abbrev pub beginSheet : ℕ → BeginReply.BeginReply → List ℕ
+beginSheet t BeginReply.the-variants.Begun = sheetLine 66 (t ∷ [])
+beginSheet t (BeginReply.the-variants.Refused n) = refusal n
+
+-- a begin line by what begin answers
 unfoldable pub beginLine : ℕ → State → BeginReply.BeginReply → Played
-beginLine t s BeginReply.the-variants.Begun = wrote s (sheetLine 66 (t ∷ []))
-beginLine t s (BeginReply.the-variants.Refused n) = refused s n
+beginLine t s r = record { number = beginNumber r; state = s; sheet = beginSheet t r }
 
 -- Sheet: `S thread taken phase`, or on ending `D thread taken answer commit`
+abbrev pub runSheet : ℕ → RunReply.RunReply → List ℕ
+runSheet t (RunReply.the-variants.Stops n p) = sheetLine 83 (t ∷ runValues (RunReply.the-variants.Stops n p))
+runSheet t (RunReply.the-variants.Ends n a c) = sheetLine 68 (t ∷ runValues (RunReply.the-variants.Ends n a c))
+runSheet t (RunReply.the-variants.Refused n) = refusal n
+
+-- a step line by what the counted steps answer
 unfoldable pub runLine : ℕ → State → RunReply.RunReply → Played
-runLine t s (RunReply.the-variants.Stops n p) = wrote s (sheetLine 83 (t ∷ n ∷ p ∷ []))
-runLine t s (RunReply.the-variants.Ends n a c) = wrote s (sheetLine 68 (t ∷ n ∷ a ∷ c ∷ []))
-runLine t s (RunReply.the-variants.Refused n) = refused s n
+runLine t s r = record { number = runNumber r; state = s; sheet = runSheet t r }
 
 -- a line by what it says
 unfoldable pub playForm : State → Line.Line → Played
 playForm s (Line.the-variants.Begin t o k) = beginLine t (beginOf s t o k .state) (beginOf s t o k .reply)
 playForm s (Line.the-variants.Steps t n) = runLine t (runOf s t n .state) (runOf s t n .reply)
-playForm s Line.the-variants.Slip = refused s 1
+playForm s Line.the-variants.Slip = refused s (lineNumber Line.the-variants.Slip)
 
 -- "other line 9, 7, 1, then 3, 4, 10, 5, 6, 11, 8 as they apply"
 unfoldable pub lineOf : ℕ → State → List ℕ → Played
@@ -71,7 +78,7 @@ lineOf room s l =
 unfoldable pub playIn : State → Line.Line → Played
 playIn s (Line.the-variants.Begin t o k) = beginLine t (beginIn s t o k .state) (beginIn s t o k .reply)
 playIn s (Line.the-variants.Steps t n) = runLine t (runIn s t n .state) (runIn s t n .reply)
-playIn s Line.the-variants.Slip = refused s 1
+playIn s Line.the-variants.Slip = refused s (lineNumber Line.the-variants.Slip)
 
 -- a line call without the range test: "9, .. 1, then 3, 4, 10, 5, 6, 11, 8 as they apply"
 unfoldable pub lineIn : ℕ → State → List ℕ → Played
@@ -81,10 +88,14 @@ lineIn room s l = cond (narrow room) (silent s 9) (playIn s (lineForm l))
 unfoldable pub endText : State → List ℕ → List ℕ
 endText s ks = keysLine 69 (s .committed ∷ s .made ∷ []) ks
 
+-- the keys of the key list, or its refusal
+abbrev pub endSheet : State → ListReply.ListReply → List ℕ
+endSheet s (ListReply.the-variants.Keys ks) = endText s (listValues (ListReply.the-variants.Keys ks))
+endSheet s (ListReply.the-variants.Refused n) = refusal n
+
 -- the end line by what the key list answers
 unfoldable pub endForm : State → ListReply.ListReply → Played
-endForm s (ListReply.the-variants.Keys ks) = wrote s (endText s (listOf ks))
-endForm s (ListReply.the-variants.Refused n) = refused s n
+endForm s r = record { number = listNumber r; state = s; sheet = endSheet s r }
 
 -- "key list .. as a sheet line 9, 7, 8"
 unfoldable pub endOf : ℕ → State → Played
@@ -93,7 +104,7 @@ endOf room s = cond (narrow room) (silent s 9) (cond (not (inRange s)) (silent s
 -- what a settings line does: a fresh state and the sheet line `R`, or `X 2`
 unfoldable pub firstPlayed : First.First → Played
 firstPlayed (First.the-variants.Settings c) = wrote (fresh c) (sheetLine 82 [])
-firstPlayed First.the-variants.Slip = refused (fresh zeroSettings) 2
+firstPlayed First.the-variants.Slip = refused (fresh zeroSettings) (firstNumber First.the-variants.Slip)
 
 -- "settings line 9, 2"
 unfoldable pub firstOf : ℕ → List ℕ → Played
@@ -109,7 +120,7 @@ playLines s (l ∷ ls) = playForm s (lineForm l) .sheet ++ playLines (playForm s
 -- "If refused, the sheet is `X 2` alone"
 unfoldable pub playFirst : First.First → List (List ℕ) → List ℕ
 playFirst (First.the-variants.Settings c) ls = sheetLine 82 [] ++ playLines (fresh c) ls
-playFirst First.the-variants.Slip ls = refusal 2
+playFirst First.the-variants.Slip ls = refusal (firstNumber First.the-variants.Slip)
 
 -- 2 also where "the first line is missing"
 unfoldable pub playAll : List (List ℕ) → List ℕ

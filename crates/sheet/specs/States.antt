@@ -8,11 +8,8 @@ use Rattle.sheet.specs.Sheet.{beginLine, runLine}
 
 pub begin-state : (t : ℕ) (s : State) (r : BeginReply.BeginReply) → beginLine t s r .state ≡ s
 unfolding beginLine
-begin-state t s BeginReply.the-variants.Begun = refl
-begin-state t s (BeginReply.the-variants.Refused n) = refl
+begin-state t s r = refl
 
 pub run-state : (t : ℕ) (s : State) (r : RunReply.RunReply) → runLine t s r .state ≡ s
 unfolding runLine
-run-state t s (RunReply.the-variants.Stops n p) = refl
-run-state t s (RunReply.the-variants.Ends n a c) = refl
-run-state t s (RunReply.the-variants.Refused n) = refl
+run-state t s r = refl

@@ -4,13 +4,15 @@ use mathlib.Core.Path.{_≡_, refl}
 use Prim.Native.Nat.{ℕ, zero, suc, _≤_, _<_}
 use borrow.Author.Tests.{ltb-false, leb-false, not-false}
 use lib.Dec.{eqb, leb, ltb}
-use Rattle.states.specs.Tests.{pick-by}
+use Rattle.states.specs.Tests.{pick-by, None, first-by}
 use Rattle.rules.specs.State.{threadAt}
 use Rattle.rules.specs.Needs.{stuck}
 use Rattle.rules.specs.Range.{inRange}
-use Rattle.rules.specs.Step.{begun, beginIn, beginOf, viewOf, after, ends, refusedRun, stepOf, steps, runIn, runOf}
+use Rattle.rules.specs.Refusals.{first}
+use Rattle.rules.specs.Step.{begun, refusedBegin, beginOrder, beginIn, beginOf, viewOf, after, ends, refusedStep, replyOf, stepOrder, stepOf, refusedRun, steps, runTests, runIn, runOf}
 use Rattle.rules.specs.declared.state.State.{State}
 use Rattle.rules.specs.declared.answer.Begin.{Begin}
+use Rattle.rules.specs.declared.answer.BeginReply as BeginReply
 use Rattle.rules.specs.declared.answer.Step.{Step}
 use Rattle.rules.specs.declared.answer.Run.{Run}
 use Rattle.rules.specs.declared.answer.RunReply as RunReply
@@ -30,40 +32,45 @@ pub steps-tests : (n : ℕ) (from s : State) (t taken : ℕ)
 unfolding steps
 steps-tests n from s t taken = branch (stuck (viewOf s t)) (refusedRun from 8) (branch (ends (threadAt s t)) _ refl)
 
--- without the range test
-pub run-in-tests : (s : State) (t n : ℕ)
-    → runIn s t n
-    ≡ cond (ltb 7 t) (refusedRun s 3)
-    (cond (eqb n 0) (refusedRun s 10)
-    (cond (ltb 1000 n) (refusedRun s 10) (cond (eqb (threadAt s t .phase) 0) (refusedRun s 6) (steps n s s t 0))))
-run-in-tests s t n =
-    branch (ltb 7 t) (refusedRun s 3)
-    (branch (eqb n 0) (refusedRun s 10)
-    (branch (ltb 1000 n) (refusedRun s 10) (branch (eqb (threadAt s t .phase) 0) (refusedRun s 6) refl)))
+-- counted steps by their tests, and then by their steps
+pub run-tests : (s : State) (t n : ℕ) → runOf s t n ≡ first (runTests s t n) (refusedRun s) (steps n s s t 0)
+unfolding runOf
+run-tests s t n = refl
 
 -- the range test first
 pub run-range : (s : State) (t n : ℕ) → runOf s t n ≡ cond (not (inRange s)) (refusedRun s 7) (runIn s t n)
 unfolding runOf
-run-range s t n = branch (not (inRange s)) (refusedRun s 7) refl
+run-range s t n = refl
 
--- "then 3, 4, 10, 5, 6, 11, 8 as they apply"
-pub run-tests : (s : State) (t n : ℕ)
-    → runOf s t n
-    ≡ cond (not (inRange s)) (refusedRun s 7)
-    (cond (ltb 7 t) (refusedRun s 3)
-    (cond (eqb n 0) (refusedRun s 10)
-    (cond (ltb 1000 n) (refusedRun s 10) (cond (eqb (threadAt s t .phase) 0) (refusedRun s 6) (steps n s s t 0)))))
-unfolding runOf
-run-tests s t n = branch (not (inRange s)) (refusedRun s 7) (run-in-tests s t n)
+-- ---- what holds of every refused answer, and of the accepted one where no refusal applies, holds of the answer
 
--- in a state that is in range the range test makes no difference: begin
-pub begin-in-range : (s : State) → inRange s ≡ true → (t o k : ℕ) → beginOf s t o k ≡ beginIn s t o k
+-- begin
+pub begin-by : (P : Begin → Type 0) (s : State) (t o k : ℕ) → ((n : ℕ) → P (refusedBegin s n))
+    → (None (beginOrder s t o k) → P (record { reply = BeginReply.the-variants.Begun; state = begun s t o k })) → P (beginOf s t o k)
 unfolding beginOf
-begin-in-range s r t o k = rw r
+begin-by P s t o k = first-by P (beginOrder s t o k) (refusedBegin s) _
 
--- and counted steps
-pub run-in-range : (s : State) → inRange s ≡ true → (t n : ℕ) → runOf s t n ≡ runIn s t n
-run-in-range s r t n = rw (run-range, r)
+-- one step
+pub step-by : (P : Step → Type 0) (s : State) (t : ℕ) → ((n : ℕ) → P (refusedStep s n))
+    → (None (stepOrder s t) → P (record { reply = replyOf s t; state = after s t })) → P (stepOf s t)
+unfolding stepOf
+step-by P s t = first-by P (stepOrder s t) (refusedStep s) _
+
+-- counted steps
+pub run-by : (P : Run → Type 0) (s : State) (t n : ℕ) → ((m : ℕ) → P (refusedRun s m)) → (None (runTests s t n) → P (steps n s s t 0)) → P (runOf s t n)
+unfolding runOf
+run-by P s t n = first-by P (runTests s t n) (refusedRun s) _
+
+-- ---- in a state that is in range the range test makes no difference
+
+-- begin
+pub begin-inner : (s : State) → inRange s ≡ true → (t o k : ℕ) → beginOf s t o k ≡ beginIn s t o k
+unfolding beginOf
+begin-inner s r t o k = rw r
+
+-- counted steps
+pub run-inner : (s : State) → inRange s ≡ true → (t n : ℕ) → runOf s t n ≡ runIn s t n
+run-inner s r t n = rw (run-range, r)
 
 -- ---- what holds of the state before, and is kept where the call is accepted, holds of the state after
 
@@ -71,26 +78,15 @@ module _ (P : State → Type 0) where
   -- begin
   pub begin-state : (s : State) (t o k : ℕ) → P s
       → (inRange s ≡ true → o ≤ 2 → k ≤ 63 → s .begun < 1000000 → P (begun s t o k)) → P (beginOf s t o k .state)
-  unfolding beginOf
   begin-state s t o k p q =
-      let Q : Begin → Type 0 = λ b. P (b .state) in
-      pick-by Q (not (inRange s)) (λ e. p) λ r.
-      pick-by Q (ltb 2 o) (λ e. p) λ a.
-      pick-by Q (ltb 7 t) (λ e. p) λ b.
-      pick-by Q (ltb 63 k) (λ e. p) λ c.
-      pick-by Q (not (eqb (threadAt s t .phase) 0)) (λ e. p) λ d.
-      pick-by Q (leb 1000000 (s .begun)) (λ e. p) λ g. q (not-false _ r) (ltb-false 2 o a) (ltb-false 63 k c) (leb-false 1000000 (s .begun) g)
+      begin-by (λ (b : Begin). P (b .state)) s t o k (λ n. p) λ h.
+      q (not-false _ (h .0)) (ltb-false 2 o (h .1 .0)) (ltb-false 63 k (h .1 .1 .1 .0)) (leb-false 1000000 (s .begun) (h .1 .1 .1 .1 .1 .0))
 
   -- one step
   pub step-state : (s : State) (t : ℕ) → P s
       → (inRange s ≡ true → t ≤ 7 → stuck (viewOf s t) ≡ false → P (after s t)) → P (stepOf s t .state)
-  unfolding stepOf
   step-state s t p q =
-      let Q : Step → Type 0 = λ b. P (b .state) in
-      pick-by Q (not (inRange s)) (λ e. p) λ r.
-      pick-by Q (ltb 7 t) (λ e. p) λ a.
-      pick-by Q (eqb (threadAt s t .phase) 0) (λ e. p) λ b.
-      pick-by Q (stuck (viewOf s t)) (λ e. p) λ c. q (not-false _ r) (ltb-false 7 t a) c
+      step-by (λ (b : Step). P (b .state)) s t (λ n. p) λ h. q (not-false _ (h .0)) (ltb-false 7 t (h .1 .0)) (h .1 .1 .1 .0)
 
   -- counted steps: kept by every step that is not stuck
   pub steps-state : (n : ℕ) (from s : State) (t taken : ℕ) → P from → P s
@@ -107,10 +103,4 @@ module _ (P : State → Type 0) where
   pub run-state : (s : State) (t n : ℕ) → P s
       → (inRange s ≡ true → t ≤ 7 → (x : State) → P x → stuck (viewOf x t) ≡ false → P (after x t)) → P (runOf s t n .state)
   run-state s t n p k =
-      let Q : Run → Type 0 = λ b. P (b .state) in
-      rw (run-tests s t n)
-      (pick-by Q (not (inRange s)) (λ e. p) λ r.
-      pick-by Q (ltb 7 t) (λ e. p) λ a.
-      pick-by Q (eqb n 0) (λ e. p) λ b.
-      pick-by Q (ltb 1000 n) (λ e. p) λ c.
-      pick-by Q (eqb (threadAt s t .phase) 0) (λ e. p) λ d. steps-state n s s t 0 p p (k (not-false _ r) (ltb-false 7 t a)))
+      run-by (λ (b : Run). P (b .state)) s t n (λ m. p) λ h. steps-state n s s t 0 p p (k (not-false _ (h .0)) (ltb-false 7 t (h .1 .0)))

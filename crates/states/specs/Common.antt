@@ -33,7 +33,7 @@ module _ (v : View) (f : ViewOk v) where
   pub nothing : PlaceOk (v .made) zeroPlace
   nothing = zero-place-ok (v .made)
 
-  -- three places, one, none; the phase alone
+  -- a plan that stores three places
   pub stores3-ok : {t : Thread} {a b c : Store} → ThreadOk (v .made) t → PlaceOk (v .made) (a .place) → PlaceOk (v .made) (b .place)
       → PlaceOk (v .made) (c .place) → PlanOk v (stores3 v t a b c)
   stores3-ok h a b c =
@@ -48,12 +48,15 @@ module _ (v : View) (f : ViewOk v) where
         third = c;
       }
 
+  -- one place
   pub stores1-ok : {t : Thread} {a : Store} → ThreadOk (v .made) t → PlaceOk (v .made) (a .place) → PlanOk v (stores1 v t a)
   stores1-ok h a = stores3-ok h a nothing nothing
 
+  -- none
   pub only-ok : {t : Thread} → ThreadOk (v .made) t → PlanOk v (only v t)
   only-ok h = stores1-ok h nothing
 
+  -- none, and the phase alone is set
   pub goes-ok : (p : ℕ) → T (leb p 25) → PlanOk v (goes v p)
   goes-ok p l = only-ok (phase-ok p l (f .thread))
 
@@ -73,12 +76,13 @@ module _ (v : View) (f : ViewOk v) where
         third = nothing;
       }
 
-  -- walk is a made node or none
+  -- a search goes to a made node or none
   pub searches-ok : {t : Thread} (w : ℕ) → RegisterOk (v .made) w → ThreadOk (v .made) t → PlanOk v (searches v t w)
   unfolding searches
   searches-ok w r h =
       let g = walk-ok w r h in only-ok (pick (ThreadOk (v .made)) (isRoute (v .reached)) (phase-ok 2 tt g) (phase-ok 3 tt (base-ok w r g)))
 
+  -- the walk to a neighbour too
   pub seeks-ok : {t : Thread} (w : ℕ) → RegisterOk (v .made) w → ThreadOk (v .made) t → PlanOk v (seeks v t w)
   unfolding seeks
   seeks-ok w r h = let g = walk-ok w r h in only-ok (pick (ThreadOk (v .made)) (isRoute (v .reached)) (phase-ok 10 tt g) (phase-ok 11 tt g))

@@ -125,13 +125,14 @@ thread-facts made t h =
     let g = hold (ok (t .prev)) rest (f .1 .1 .1 .1 .1 .0) in
     record { numbers = omega (arith, leb-true); registers = λ i. register-facts made _ (each ok (registersOf t) none g refl i) }
 
--- each place, each thread passes its test
+-- each place passes its test
 places-hold : (made : ℕ) (ps : List Place) → placesInRange made ps ≡ true → Hold (map (placeInRange made) ps)
 unfolding placesInRange
 places-hold made [] h = tt
 places-hold made (p ∷ ps) h =
     let b = both (placeInRange made p) (placesInRange made ps) h in (b .0, places-hold made ps (b .1))
 
+-- each thread passes its test
 threads-hold : (made : ℕ) (ts : List Thread) → threadsInRange made ts ≡ true → Hold (map (threadInRange made) ts)
 unfolding threadsInRange
 threads-hold made [] h = tt

@@ -9,12 +9,11 @@ use lib.Dec.{eqb, ltb}
 use Rattle.keys.specs.Keys.{size}
 use Rattle.states.specs.Tests.{pick, pick-by}
 use Rattle.states.specs.Phase.{Each, end, _then_, by-phase}
+use Rattle.states.specs.Calls.{step-by}
 use Rattle.states.specs.Facts.{facts}
 use Rattle.rules.specs.State.{none, threadAt}
 use Rattle.rules.specs.Places.{isRoute, isFree, withKeys}
 use Rattle.rules.specs.Rows.{hangs, searches, seeks, farChild, aboveMax, belowMin, keysThen, commits, decides, noSplit, split, noJoin, join, towardsPrev, row0, row1, row2, row3, row4, row5, row6, row7, row8, row9, row10, row11, row12, row13, row14, row15, row16, row17, row18, row19, row20, row21, row22, row23, row24, row25, rows, planOf}
-use Rattle.rules.specs.Needs.{stuck}
-use Rattle.rules.specs.Range.{inRange}
 use Rattle.rules.specs.Step.{viewBefore, viewOf, ends, replyOf, stepOf}
 use Rattle.rules.specs.Follow.{follows}
 use Rattle.rules.specs.declared.state.Thread.{Thread}
@@ -24,13 +23,15 @@ use Rattle.rules.specs.declared.answer.StepReply as StepReply
 use Rattle.rules.specs.declared.row.View.{View}
 use Rattle.rules.specs.declared.row.Plan.{Plan}
 
--- a phase that may follow p; a thread at one; a plan with one
+-- a phase that may follow p
 abbrev Phase : ℕ → ℕ → Type 0
 Phase p q = follows p q ≡ true
 
+-- a thread at such a phase
 abbrev Goes : ℕ → Thread → Type 0
 Goes p t = follows p (t .phase) ≡ true
 
+-- a plan that leaves the thread at such a phase
 abbrev Plans : ℕ → Plan → Type 0
 Plans p q = follows p (q .thread .phase) ≡ true
 
@@ -84,28 +85,22 @@ followed v l h = by-phase follow (λ p g i j. absurd (omega arith)) (v .thread .
 
 -- every accepted step: one that goes on goes to a follower of its phase
 pub step-goes : (s : State) (t q : ℕ) → stepOf s t .reply ≡ StepReply.the-variants.Goes q → follows (threadAt s t .phase) q ≡ true
-unfolding stepOf replyOf viewOf viewBefore
+unfolding replyOf viewOf viewBefore
 step-goes s t q =
     let p = threadAt s t .phase in
     let Q : StepReply.StepReply → Type 0 = λ r. r ≡ StepReply.the-variants.Goes q → follows p q ≡ true in
     let S : Step → Type 0 = λ b. Q (b .reply) in
-    pick-by S (not (inRange s)) (λ a e. cc) λ r.
-    pick-by S (ltb 7 t) (λ a e. cc) λ l.
-    pick-by S (eqb p 0) (λ a e. cc) λ n.
-    pick-by S (stuck (viewOf s t)) (λ a e. cc) λ f.
+    step-by S s t (λ m e. cc) λ n.
     pick-by Q (ends (threadAt s t)) (λ a e. cc) λ d e.
     let h : planOf (viewOf s t) .thread .phase ≡ q = cc in
-    let m = facts s (not-false _ r) .threads t .numbers .phase in
-    subst (λ (x : ℕ). follows p x ≡ true) h (followed (viewOf s t) (omega (arith, eqb-false p 0 n)) m)
+    let m = facts s (not-false _ (n .0)) .threads t .numbers .phase in
+    subst (λ (x : ℕ). follows p x ≡ true) h (followed (viewOf s t) (omega (arith, eqb-false p 0 (n .1 .1 .0))) m)
 
 -- and one that ends was at 25, which 0 follows
 pub step-ends : (s : State) (t a c : ℕ) → stepOf s t .reply ≡ StepReply.the-variants.Ends a c → threadAt s t .phase ≡ 25
-unfolding stepOf replyOf
+unfolding replyOf
 step-ends s t a c =
     let p = threadAt s t .phase in
     let Q : StepReply.StepReply → Type 0 = λ r. r ≡ StepReply.the-variants.Ends a c → p ≡ 25 in
     let S : Step → Type 0 = λ b. Q (b .reply) in
-    pick S (not (inRange s)) (λ e. cc)
-    (pick S (ltb 7 t) (λ e. cc)
-    (pick S (eqb p 0) (λ e. cc)
-    (pick S (stuck (viewOf s t)) (λ e. cc) (pick-by Q (ends (threadAt s t)) (λ h e. eqb-true p 25 h) (λ h e. cc)))))
+    step-by S s t (λ m e. cc) (λ n. pick-by Q (ends (threadAt s t)) (λ h e. eqb-true p 25 h) (λ h e. cc))

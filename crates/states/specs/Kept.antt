@@ -5,7 +5,7 @@ use Prim.Native.Nat.{ℕ, _≤_, _<_}
 use native.Mathlib.Omega.{arith}
 use borrow.Author.Tests.{not-false}
 use lib.ListN.{getD, replicate}
-use Rattle.states.specs.Tests.{pick-by}
+use Rattle.states.specs.Tests.{first-by}
 use Rattle.states.specs.Phase.{Each, end, _then_, by-phase}
 use Rattle.states.specs.Calls.{begin-state, step-state, run-state}
 use Rattle.states.specs.Lists.{each-set, each-replicate}
@@ -18,7 +18,7 @@ use Rattle.rules.specs.State.{unmade, fresh, zeroPlace, zeroThread, threadAt}
 use Rattle.rules.specs.Rows.{rows, planOf}
 use Rattle.rules.specs.Needs.{needs, idle, stuck}
 use Rattle.rules.specs.Range.{settingsInRange, registerInRange, registersInRange, threadInRange, inRange}
-use Rattle.rules.specs.Step.{zeroSettings, freshOf, begun, beginOf, viewOf, after, stepOf, runOf}
+use Rattle.rules.specs.Step.{zeroSettings, freshOrder, refusedFresh, freshOf, begun, beginOf, viewOf, after, stepOf, runOf}
 use Rattle.rules.specs.declared.state.Settings.{Settings}
 use Rattle.rules.specs.declared.state.State.{State}
 use Rattle.rules.specs.declared.row.View.{View}
@@ -85,7 +85,8 @@ fresh-in-range c h = in-range (fresh c) (fresh-ok c h)
 pub fresh-of-in-range : (c : Settings) → inRange (freshOf c .state) ≡ true
 unfolding freshOf settingsInRange zeroSettings
 fresh-of-in-range c =
-    pick-by (λ (r : Fresh). inRange (r .state) ≡ true) (settingsInRange c) (fresh-in-range c) (λ e. fresh-in-range zeroSettings refl)
+    first-by (λ (r : Fresh). inRange (r .state) ≡ true) (freshOrder c) refusedFresh _ (λ n. fresh-in-range zeroSettings refl)
+    (λ h. fresh-in-range c (not-false _ (h .0)))
 
 -- begin
 pub begin-in-range : (s : State) (t o k : ℕ) → inRange s ≡ true → inRange (beginOf s t o k .state) ≡ true

@@ -14,3 +14,4 @@ pub mod KeepsJoin
 pub mod Kept
 pub mod Followed
 pub mod Refused
+pub mod Answered

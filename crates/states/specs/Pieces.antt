@@ -49,13 +49,15 @@ module _ {m : ℕ} {t : Thread} where
   pub made-ok : (x : ℕ) → RegisterOk m x → ThreadOk m t → ThreadOk m (setMade x t)
   made-ok x r f = let n = f .numbers in record { numbers = omega arith; registers = registers-ok 5 x r f }
 
-  -- the side; the answer and the commit number; the operation and the key
+  -- the side
   pub side-ok : (w : Bool) → ThreadOk m t → ThreadOk m (setSide w t)
   side-ok w f = let n = f .numbers in record { numbers = omega arith; registers = f .registers }
 
+  -- the answer and the commit number
   pub answer-ok : (a n : ℕ) → a ≤ 1 → n ≤ 1000000 → ThreadOk m t → ThreadOk m (setAnswer a n t)
   answer-ok a n l h f = let b = f .numbers in record { numbers = omega arith; registers = f .registers }
 
+  -- the operation and the key
   pub operation-ok : (o k : ℕ) → o ≤ 2 → k ≤ 63 → ThreadOk m t → ThreadOk m (setOperation o k t)
   operation-ok o k l h f = let b = f .numbers in record { numbers = omega arith; registers = f .registers }
 
@@ -91,26 +93,31 @@ module _ {m : ℕ} {p : Place} where
       → PlaceOk m (withLock l p)
   lock-ok l h n f = record { holder = h; statistics = λ e. n (f .statistics e); body = f .body }
 
-  -- "Taking at phase 3", "at phase 4", "A try on a neighbour, and route locks"
+  -- "Taking at phase 3"
   pub taken3-ok : (me : ℕ) (c : Settings) → me ≤ 7 → PlaceOk m p → PlaceOk m (withLock (taken3 me c (p .lock)) p)
   taken3-ok me c h f = lock-ok (taken3 me c (p .lock)) (omega arith) (λ n. omega arith) f
 
+  -- "taking at phase 4"
   pub taken4-ok : (me : ℕ) (c : Settings) → me ≤ 7 → PlaceOk m p → PlaceOk m (withLock (taken4 me c (p .lock)) p)
   taken4-ok me c h f = lock-ok (taken4 me c (p .lock)) (omega arith) (λ n. omega arith) f
 
+  -- "A try on a neighbour, and route locks"
   pub tried-ok : (me : ℕ) → me ≤ 7 → PlaceOk m p → PlaceOk m (withLock (tried me (p .lock)) p)
   tried-ok me h f = lock-ok (tried me (p .lock)) (omega arith) (λ n. n) f
 
-  -- released; "statistics 0"; invalid; a base with other keys
+  -- released
   pub release-ok : PlaceOk m p → PlaceOk m (release p)
   release-ok f = lock-ok (released (p .lock)) (omega arith) (λ n. n) f
 
+  -- "statistics 0"
   pub zero-ok : PlaceOk m p → PlaceOk m (zero p)
   zero-ok f = lock-ok (zeroed (p .lock)) (f .holder) (λ n. omega arith) f
 
+  -- invalid
   pub invalid-ok : PlaceOk m p → PlaceOk m (invalid p)
   invalid-ok f = record { holder = f .holder; statistics = f .statistics; body = f .body }
 
+  -- a base with other keys
   pub keys-ok : (ks : ℕ) → isBase p ≡ true → PlaceOk m p → PlaceOk m (withKeys ks p)
   keys-ok ks b f = record { holder = f .holder; statistics = λ e. f .statistics b; body = base-body-ok m ks }
 

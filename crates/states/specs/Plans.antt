@@ -39,16 +39,18 @@ pub record PlanOk (v : View) (p : Plan) : Type 0 where
 
 -- ---- what is in range for a count of nodes made is so for a larger one
 
--- a place, a register, a thread
+-- a place
 place-more : {m n : ℕ} {p : Place} → m ≤ n → PlaceOk m p → PlaceOk n p
 place-more l f =
     let b = f .body in
     record { holder = f .holder; statistics = f .statistics; body = record { key = b .key; child = λ w e. le-trans (b .child w e) l } }
 
+-- a register
 register-more : {m n r : ℕ} → m ≤ n → RegisterOk m r → RegisterOk n r
 register-more l (inl e) = inl e
 register-more l (inr g) = inr (le-trans g l)
 
+-- a thread
 pub thread-more : {m n : ℕ} {t : Thread} → m ≤ n → ThreadOk m t → ThreadOk n t
 thread-more l f = record { numbers = f .numbers; registers = λ i. register-more l (f .registers i) }
 

@@ -1,15 +1,12 @@
 -- "State unchanged in all": a refused call leaves the state. And how many steps a run says that it took.
-use mathlib.Core.Bool.{not}
 use mathlib.Core.Path.{_≡_, refl, subst}
 use Prim.Native.Nat.{ℕ, zero, suc, _+_, _≤_, _<_}
 use native.Mathlib.Nat.{zero-add}
 use native.Mathlib.Omega.{arith}
-use lib.Dec.{eqb, leb, ltb}
 use Rattle.states.specs.Tests.{pick}
-use Rattle.states.specs.Calls.{steps-tests, run-tests}
+use Rattle.states.specs.Calls.{steps-tests, begin-by, step-by, run-by}
 use Rattle.rules.specs.State.{threadAt}
 use Rattle.rules.specs.Needs.{stuck}
-use Rattle.rules.specs.Range.{inRange}
 use Rattle.rules.specs.Step.{beginOf, viewOf, after, ends, replyOf, stepOf, steps, runOf}
 use Rattle.rules.specs.declared.state.State.{State}
 use Rattle.rules.specs.declared.answer.Begin.{Begin}
@@ -21,25 +18,17 @@ use Rattle.rules.specs.declared.answer.RunReply as RunReply
 
 -- begin
 pub begin-refused : (s : State) (t o k n : ℕ) → beginOf s t o k .reply ≡ BeginReply.the-variants.Refused n → beginOf s t o k .state ≡ s
-unfolding beginOf
 begin-refused s t o k n =
     let Q : Begin → Type 0 = λ b. b .reply ≡ BeginReply.the-variants.Refused n → b .state ≡ s in
-    pick Q (not (inRange s)) (λ e. refl)
-    (pick Q (ltb 2 o) (λ e. refl)
-    (pick Q (ltb 7 t) (λ e. refl)
-    (pick Q (ltb 63 k) (λ e. refl)
-    (pick Q (not (eqb (threadAt s t .phase) 0)) (λ e. refl) (pick Q (leb 1000000 (s .begun)) (λ e. refl) (λ e. cc))))))
+    begin-by Q s t o k (λ m e. refl) (λ h e. cc)
 
 -- one step
 pub step-refused : (s : State) (t n : ℕ) → stepOf s t .reply ≡ StepReply.the-variants.Refused n → stepOf s t .state ≡ s
-unfolding stepOf replyOf
+unfolding replyOf
 step-refused s t n =
     let Q : Step → Type 0 = λ b. b .reply ≡ StepReply.the-variants.Refused n → b .state ≡ s in
     let R : StepReply.StepReply → Type 0 = λ r. r ≡ StepReply.the-variants.Refused n → after s t ≡ s in
-    pick Q (not (inRange s)) (λ e. refl)
-    (pick Q (ltb 7 t) (λ e. refl)
-    (pick Q (eqb (threadAt s t .phase) 0) (λ e. refl)
-    (pick Q (stuck (viewOf s t)) (λ e. refl) (pick R (ends (threadAt s t)) (λ e. cc) (λ e. cc)))))
+    step-by Q s t (λ m e. refl) (λ h. pick R (ends (threadAt s t)) (λ e. cc) (λ e. cc))
 
 -- what the reply of counted steps tells: stopped, all of them were taken; ended, some; refused, the state is the one before
 abbrev Tells : State → ℕ → ℕ → State → RunReply.RunReply → Type 0
@@ -71,13 +60,7 @@ steps-tell (suc n) from s t taken =
 
 -- the whole run
 run-tells : (s : State) (t n : ℕ) → Told s 0 n (runOf s t n)
-run-tells s t n =
-    let Q = Told s 0 n in
-    rw (run-tests s t n)
-    (pick Q (not (inRange s)) refl
-    (pick Q (ltb 7 t) refl
-    (pick Q (eqb n 0) refl
-    (pick Q (ltb 1000 n) refl (pick Q (eqb (threadAt s t .phase) 0) refl (rw zero-add at (steps-tell n s s t 0)))))))
+run-tells s t n = run-by (Told s 0 n) s t n (λ m. refl) (λ h. rw zero-add at (steps-tell n s s t 0))
 
 -- counted steps
 pub run-refused : (s : State) (t n m : ℕ) → runOf s t n .reply ≡ RunReply.the-variants.Refused m → runOf s t n .state ≡ s

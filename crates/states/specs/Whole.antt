@@ -163,12 +163,14 @@ after-whole s t w =
       keys = each-put HasSet (p .third) _ (g .third) (each-put HasSet (p .second) _ (g .second) first);
     }
 
--- begin, one step, counted steps, whatever they answer
+-- begin, whatever it answers
 pub begin-whole : (s : State) (t o k : ℕ) → Whole s → Whole (beginOf s t o k .state)
 begin-whole s t o k w = begin-state Whole s t o k w (λ r a b c. begun-whole s t o k w)
 
+-- one step, whatever it answers
 pub step-whole : (s : State) (t : ℕ) → Whole s → Whole (stepOf s t .state)
 step-whole s t w = step-state Whole s t w (λ r l h. after-whole s t w)
 
+-- counted steps, whatever they answer
 pub run-whole : (s : State) (t n : ℕ) → Whole s → Whole (runOf s t n .state)
 run-whole s t n w = run-state Whole s t n w (λ r l x f h. after-whole x t f)

@@ -1,7 +1,7 @@
 -- Laws of reading: fields and lines by the places of their ends, and what a loop over the bytes needs.
 use mathlib.Core.Bool.{Bool, true, false, cond, _&&_, and-eq-true-iff}
 use mathlib.Core.List.{List, [], _∷_}
-use mathlib.Core.Path.{_≡_, refl, sym, _∙_}
+use mathlib.Core.Path.{_≡_, refl, sym, ap, _∙_}
 use Prim.Native.Nat.{ℕ, zero, suc, _+_, _-_, _*_, _≤_, _<_, zero-le, suc-le-suc}
 use native.Mathlib.Numerals.{add-one}
 use native.Mathlib.Omega.{arith}
@@ -10,7 +10,7 @@ use lib.Dec.{ltb, leb, eqb, leb·suc-suc}
 use lib.ListN.{length, getD, take, drop, length-drop}
 use lib.Seq.{drop-cons, take-all}
 use Rattle.text.specs.declared.Number as Number
-use Rattle.text.specs.Text.{tab, newline, until, onto, fields, lines, digits, isNumber, valueFrom, valueIf}
+use Rattle.text.specs.Text.{tab, newline, until, onto, fields, lines, digits, isNumber, valueFrom, value, valueIf, numberOf, numberValues, numberSays}
 
 -- ---- the first b
 
@@ -146,3 +146,12 @@ value-made t v w e f = rw (e, f)
 pub slip-made : (t : Bool) (v : ℕ) → t ≡ false → Number.the-variants.Slip ≡ valueIf t v
 unfolding valueIf
 slip-made t v e = rw e
+
+-- with what a part says as a number, its value
+pub number-says : (f : List ℕ) (r : Number.Number) → r ≡ numberOf f → (r ≡ numberOf f) × (numberValues r ≡ numberSays f)
+unfolding valueIf
+number-says f r e = (e, ap numberValues e ∙ by (isNumber f) (value f))
+  where
+    by : (t : Bool) (v : ℕ) → numberValues (cond t (Number.the-variants.Value v) Number.the-variants.Slip) ≡ cond t (v ∷ []) []
+    by true v = refl
+    by false v = refl

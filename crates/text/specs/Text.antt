@@ -78,6 +78,10 @@ abbrev pub numberValues : Number.Number → List ℕ
 numberValues (Number.the-variants.Value v) = v ∷ []
 numberValues Number.the-variants.Slip = []
 
+-- the value of a part that is a number
+abbrev pub numberSays : List ℕ → List ℕ
+numberSays f = cond (isNumber f) (value f ∷ []) []
+
 -- ---- writing
 
 -- the digits of n; the first number is how many they are at most

@@ -25,7 +25,7 @@ enum-told c = search needs
 
 returns-2 : tie.Need-returns-2
 unfolding lineForm isBegin isSteps
-returns-2 c = simp (c .before .before .before .before .before .before .pre, sym (c .before .before .before .before .letter-at .ensures) ∙ not-false _ (c .before .before .before .if1 .left), slip-if _ _ (sym (c .before .before .number-at .ensures) ∙ c .enum-told .given .1))
+returns-2 c = simp (c .before .before .before .before .before .before .pre, sym (c .before .before .before .before .letter-at .ensures) ∙ not-false _ (c .before .before .before .if1 .left), slip-if _ _ (sym (c .before .before .number-at .ensures .0) ∙ c .enum-told .given .1))
 
 operation-at-requires : tie.Need-operation-at-requires
 operation-at-requires c κs = search needs
@@ -42,7 +42,7 @@ returns-3 c =
     simp (
       c .before .before .before .before .before .before .before .before .before .before .pre,
       sym (c .before .before .before .before .before .before .before .before .letter-at .ensures) ∙ not-false _ (c .before .before .before .before .before .before .before .if1 .left),
-      value-if _ _ _ (sym (c .before .before .before .before .before .before .number-at .ensures) ∙ c .before .before .before .before .thread .given .1) .0,
+      value-if _ _ _ (sym (c .before .before .before .before .before .before .number-at .ensures .0) ∙ c .before .before .before .before .thread .given .1) .0,
       slip-if _ _ (sym (c .before .before .operation-at .ensures) ∙ c .enum-told2 .given .1),
     )
 
@@ -61,17 +61,17 @@ returns-4 c =
     simp (
       c .before .before .before .before .before .before .before .before .before .before .before .before .before .before .pre,
       sym (c .before .before .before .before .before .before .before .before .before .before .before .before .letter-at .ensures) ∙ not-false _ (c .before .before .before .before .before .before .before .before .before .before .before .if1 .left),
-      value-if _ _ _ (sym (c .before .before .before .before .before .before .before .before .before .before .number-at .ensures) ∙ c .before .before .before .before .before .before .before .before .thread .given .1) .0,
+      value-if _ _ _ (sym (c .before .before .before .before .before .before .before .before .before .before .number-at .ensures .0) ∙ c .before .before .before .before .before .before .before .before .thread .given .1) .0,
       value-if _ _ _ (sym (c .before .before .before .before .before .before .operation-at .ensures) ∙ c .before .before .before .before .operation .given .1) .0,
-      slip-if _ _ (sym (c .before .before .number-at2 .ensures) ∙ c .enum-told3 .given .1),
+      slip-if _ _ (sym (c .before .before .number-at2 .ensures .0) ∙ c .enum-told3 .given .1),
     )
 
 returns-5 : tie.Need-returns-5
 unfolding lineForm isBegin isSteps
 returns-5 c =
-    let t = value-if _ _ _ (sym (c .before .before .before .before .before .before .before .before .before .before .before .number-at .ensures) ∙ c .before .before .before .before .before .before .before .before .before .thread .given .1) in
+    let t = value-if _ _ _ (sym (c .before .before .before .before .before .before .before .before .before .before .before .number-at .ensures .0) ∙ c .before .before .before .before .before .before .before .before .before .thread .given .1) in
     let o = value-if _ _ _ (sym (c .before .before .before .before .before .before .before .operation-at .ensures) ∙ c .before .before .before .before .before .operation .given .1) in
-    let k = value-if _ _ _ (sym (c .before .before .before .number-at2 .ensures) ∙ c .before .key .given .1) in
+    let k = value-if _ _ _ (sym (c .before .before .before .number-at2 .ensures .0) ∙ c .before .key .given .1) in
     simp (c .before .before .before .before .before .before .before .before .before .before .before .before .before .before .before .pre, sym (c .before .before .before .before .before .before .before .before .before .before .before .before .before .letter-at .ensures) ∙ not-false _ (c .before .before .before .before .before .before .before .before .before .before .before .before .if1 .left), t .0, t .1, o .0, o .1, k .0, k .1)
 
 pub begin-form-spec : {M : Type 1} → statement M

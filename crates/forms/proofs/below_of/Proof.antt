@@ -40,18 +40,18 @@ enum-told c = search needs
 
 returns-3 : tie.Need-returns-3
 unfolding isBelow
-returns-3 c = slip-made _ _ (simp (eq-eqb _ _ (c .before .before .before .before .if2 .left), (simp rest-part at (slip-if _ _ (sym (c .before .before .number-of .ensures) ∙ c .enum-told .given .1)))))
+returns-3 c = slip-made _ _ (simp (eq-eqb _ _ (c .before .before .before .before .if2 .left), (simp rest-part at (slip-if _ _ (sym (c .before .before .number-of .ensures .0) ∙ c .enum-told .given .1)))))
 
 returns-4 : tie.Need-returns-4
 unfolding isBelow
 returns-4 c =
-    let v = (simp rest-part at (value-if _ _ _ (sym (c .before .before .before .before .number-of .ensures) ∙ c .before .before .value .given .1))) in
+    let v = (simp rest-part at (value-if _ _ _ (sym (c .before .before .before .before .number-of .ensures .0) ∙ c .before .before .value .given .1))) in
     slip-made _ _ (simp (eq-eqb _ _ (c .before .before .before .before .before .before .if2 .left), v .0, v .1, c .if3 .taken))
 
 returns-5 : tie.Need-returns-5
 unfolding isBelow
 returns-5 c =
-    let v = (simp rest-part at (value-if _ _ _ (sym (c .before .before .before .before .number-of .ensures) ∙ c .before .before .value .given .1))) in
+    let v = (simp rest-part at (value-if _ _ _ (sym (c .before .before .before .before .number-of .ensures .0) ∙ c .before .before .value .given .1))) in
     value-made _ _ _ (simp (eq-eqb _ _ (c .before .before .before .before .before .before .if2 .left), v .0, v .1, ne-eqb _ _ (c .if3 .left))) (v .1)
 
 pub below-of-spec : {M : Type 1} → statement M

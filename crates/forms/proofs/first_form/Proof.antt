@@ -1,7 +1,7 @@
 -- `forms::first_form` meets its contract.
 use mathlib.Core.Path.{sym, _∙_}
 use borrow.Author.Tests.{ne-eqb}
-use Rattle.forms.specs.Form.{firstForm, settingsForm, ranged, isFirst}
+use Rattle.forms.specs.Form.{firstForm, settingsForm, ranged, isFirst, first-says}
 use borrow.Author.Needs.{needs}
 use Rattle.forms.proofs.first_form.Statement.{statement}
 use Rattle.forms.proofs.first_form.Tie as tie
@@ -11,7 +11,7 @@ field-count-requires c κs = search needs
 
 returns : tie.Need-returns
 unfolding firstForm ranged settingsForm isFirst
-returns c = simp (ne-eqb _ _ (λ e. c .if1 .taken (c .before .field-count .ensures ∙ e)))
+returns c = first-says _ _ (simp (ne-eqb _ _ (λ e. c .if1 .taken (c .before .field-count .ensures ∙ e))))
 
 settings-form-requires : tie.Need-settings-form-requires
 settings-form-requires c κs = search needs
@@ -24,18 +24,18 @@ enum-told c = search needs
 
 returns-2 : tie.Need-returns-2
 unfolding firstForm ranged
-returns-2 c = simp (sym (c .before .before .settings-form .ensures) ∙ c .enum-told .given .1)
+returns-2 c = first-says _ _ (simp (sym (c .before .before .settings-form .ensures) ∙ c .enum-told .given .1))
 
 settings-in-range-requires : tie.Need-settings-in-range-requires
 settings-in-range-requires c κs = search needs
 
 returns-3 : tie.Need-returns-3
 unfolding firstForm ranged
-returns-3 c = simp (sym (c .before .before .before .before .before .settings-form .ensures) ∙ c .before .before .before .settings .given .1, sym (c .before .settings-in-range .ensures) ∙ c .if2 .taken)
+returns-3 c = first-says _ _ (simp (sym (c .before .before .before .before .before .settings-form .ensures) ∙ c .before .before .before .settings .given .1, sym (c .before .settings-in-range .ensures) ∙ c .if2 .taken))
 
 returns-4 : tie.Need-returns-4
 unfolding firstForm ranged
-returns-4 c = simp (sym (c .before .before .before .before .before .settings-form .ensures) ∙ c .before .before .before .settings .given .1, sym (c .before .settings-in-range .ensures) ∙ c .if2 .left)
+returns-4 c = first-says _ _ (simp (sym (c .before .before .before .before .before .settings-form .ensures) ∙ c .before .before .before .settings .given .1, sym (c .before .settings-in-range .ensures) ∙ c .if2 .left))
 
 pub first-form-spec : {M : Type 1} → statement M
 first-form-spec =

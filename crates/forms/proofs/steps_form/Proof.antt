@@ -25,7 +25,7 @@ enum-told c = search needs
 
 returns-2 : tie.Need-returns-2
 unfolding lineForm isBegin isSteps
-returns-2 c = simp (c .before .before .before .before .before .before .pre, sym (c .before .before .before .before .letter-at .ensures) ∙ not-false _ (c .before .before .before .if1 .left), slip-if _ _ (sym (c .before .before .number-at .ensures) ∙ c .enum-told .given .1))
+returns-2 c = simp (c .before .before .before .before .before .before .pre, sym (c .before .before .before .before .letter-at .ensures) ∙ not-false _ (c .before .before .before .if1 .left), slip-if _ _ (sym (c .before .before .number-at .ensures .0) ∙ c .enum-told .given .1))
 
 number-at-requires-2 : tie.Need-number-at-requires-2
 number-at-requires-2 c κs = search needs
@@ -42,15 +42,15 @@ returns-3 c =
     simp (
       c .before .before .before .before .before .before .before .before .before .before .pre,
       sym (c .before .before .before .before .before .before .before .before .letter-at .ensures) ∙ not-false _ (c .before .before .before .before .before .before .before .if1 .left),
-      value-if _ _ _ (sym (c .before .before .before .before .before .before .number-at .ensures) ∙ c .before .before .before .before .thread .given .1) .0,
-      slip-if _ _ (sym (c .before .before .number-at2 .ensures) ∙ c .enum-told2 .given .1),
+      value-if _ _ _ (sym (c .before .before .before .before .before .before .number-at .ensures .0) ∙ c .before .before .before .before .thread .given .1) .0,
+      slip-if _ _ (sym (c .before .before .number-at2 .ensures .0) ∙ c .enum-told2 .given .1),
     )
 
 returns-4 : tie.Need-returns-4
 unfolding lineForm isBegin isSteps
 returns-4 c =
-    let t = value-if _ _ _ (sym (c .before .before .before .before .before .before .before .number-at .ensures) ∙ c .before .before .before .before .before .thread .given .1) in
-    let n = value-if _ _ _ (sym (c .before .before .before .number-at2 .ensures) ∙ c .before .count .given .1) in
+    let t = value-if _ _ _ (sym (c .before .before .before .before .before .before .before .number-at .ensures .0) ∙ c .before .before .before .before .before .thread .given .1) in
+    let n = value-if _ _ _ (sym (c .before .before .before .number-at2 .ensures .0) ∙ c .before .count .given .1) in
     simp (c .before .before .before .before .before .before .before .before .before .before .before .pre, sym (c .before .before .before .before .before .before .before .before .before .letter-at .ensures) ∙ not-false _ (c .before .before .before .before .before .before .before .before .if1 .left), t .0, t .1, n .0, n .1)
 
 pub steps-form-spec : {M : Type 1} → statement M

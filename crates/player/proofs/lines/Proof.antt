@@ -11,7 +11,7 @@ use Rattle.text.specs.Reading.{until-le, rest-part}
 use borrow.Author.Needs.{needs}
 use Rattle.rules.specs.Range.{inRange}
 use Rattle.player.specs.Turns.{Out, standing, Turned, turn}
-use Rattle.player.specs.Ahead.{Ahead, back, turned-stage, ahead-none, ahead-line, line-end, line-in-range, line-within}
+use Rattle.player.specs.Ahead.{Ahead, back, turned-stage, ahead-none, ahead-line, line-end, line-inner, line-within}
 use Rattle.player.proofs.lines.Statement.{statement}
 use Rattle.player.proofs.lines.Tie as tie
 
@@ -85,7 +85,7 @@ loop-again c =
     let q = rw (rest-part (c .before .before .before .before .before .before .before .before .before .before .before .before .loop .at) (c .before .before .before .before .before .before .before .before .before .before .before .before .before .before .before .before .before .args .file .now), e .0) at (c .before .before .before .before .before .line .ensures) in (
       search needs,
       omega (arith, line-within (c .before .before .before .before .before .before .before .before .before .before .before .before .loop .used) (c .before .before .before .before .before .before .before .before .before .before .before .before .loop .room) (c .before .before .before .before .before .before .before .before .before .before .before .before .loop .s) _ (c .before .before .before .before .before .line .ensures) (c .before .before .before .before .before .before .before .before .before .before .before .before .loop .inv .1)),
-      line-in-range _ _ _ (inv .2) (c .before .before .before .before .before .line .ensures),
+      line-inner _ _ _ (inv .2) (c .before .before .before .before .before .line .ensures),
       λ o l t. rw (c .before .last-refused .ensures, e .0) (ahead-line (inv .3 o l t) (inv .2) (h .1) (h .0) q),
     )
 

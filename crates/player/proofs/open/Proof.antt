@@ -11,7 +11,7 @@ fresh-requires c κs = search needs
 
 returns : tie.Need-returns
 unfolding opened zeroSettings freshOf settingsInRange
-returns c = rw (c .before .fresh .ensures)
+returns c = rw (c .before .fresh .ensures .0)
 
 pub open-spec : {M : Type 1} → statement M
 open-spec = tie.close (tie.spec fresh-requires returns)

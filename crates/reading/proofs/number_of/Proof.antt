@@ -1,7 +1,7 @@
 -- `reading::number_of` meets its contract.
 use mathlib.Core.Path.{sym, _∙_}
 use Rattle.text.specs.Text.{valueIf}
-use Rattle.text.specs.Reading.{number-digits}
+use Rattle.text.specs.Reading.{number-digits, number-says}
 use borrow.Author.Needs.{needs}
 use Rattle.reading.proofs.number_of.Statement.{statement}
 use Rattle.reading.proofs.number_of.Tie as tie
@@ -14,11 +14,11 @@ value-requires c κs = number-digits _ (sym (c .before .is-number .ensures) ∙ 
 
 returns : tie.Need-returns
 unfolding valueIf
-returns c = simp (sym (c .before .before .is-number .ensures) ∙ c .before .if1 .taken, c .value .ensures)
+returns c = number-says _ _ (simp (sym (c .before .before .is-number .ensures) ∙ c .before .if1 .taken, c .value .ensures))
 
 returns-2 : tie.Need-returns-2
 unfolding valueIf
-returns-2 c = simp (sym (c .before .is-number .ensures) ∙ c .if1 .left)
+returns-2 c = number-says _ _ (simp (sym (c .before .is-number .ensures) ∙ c .if1 .left))
 
 pub number-of-spec : {M : Type 1} → statement M
 number-of-spec = tie.close (tie.spec is-number-requires value-requires returns returns-2)

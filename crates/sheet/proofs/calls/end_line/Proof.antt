@@ -34,7 +34,7 @@ same-length c = search needs
 
 returns-3 : tie.Need-returns-3
 unfolding endOf
-returns-3 c = rw (le-ltb _ _ (c .before .before .before .before .before .before .before .if1 .left), ← c .before .before .before .before .before .before .in-range .ensures, c .before .before .before .before .before .if2 .left, ← c .before .before .before .before .key-list .ensures) (c .before .before .keys-line .ensures)
+returns-3 c = rw (le-ltb _ _ (c .before .before .before .before .before .before .before .if1 .left), ← c .before .before .before .before .before .before .in-range .ensures, c .before .before .before .before .before .if2 .left, ← c .before .before .before .before .key-list .ensures .0) (c .before .before .keys-line .ensures)
 
 pub end-line-spec : {M : Type 1} → statement M
 end-line-spec =

@@ -9,7 +9,7 @@ fresh-requires c κs = search needs
 
 returns : tie.Need-returns
 unfolding freshOf
-returns c = rw (c .before .fresh .ensures, c .before .before .pre)
+returns c = rw (c .before .fresh .ensures .0, c .before .before .pre)
 
 pub fresh-state-spec : {M : Type 1} → statement M
 fresh-state-spec = tie.close (tie.spec fresh-requires returns)

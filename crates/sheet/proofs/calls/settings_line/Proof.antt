@@ -25,7 +25,7 @@ enum-known-form : tie.Need-enum-known-form
 enum-known-form c = search needs
 
 fresh-state-requires : tie.Need-fresh-state-requires
-fresh-state-requires c κs = first-in-range _ _ (sym (c .before .before .before .first-form .ensures) ∙ c .before .form .given .1)
+fresh-state-requires c κs = first-in-range _ _ (sym (c .before .before .before .first-form .ensures .0) ∙ c .before .form .given .1)
 
 slice-aggregate-wrote : tie.Need-slice-aggregate-wrote
 slice-aggregate-wrote c = search needs
@@ -47,14 +47,14 @@ same-length c = search needs
 
 returns-2 : tie.Need-returns-2
 unfolding firstOf firstPlayed
-returns-2 c = rw (le-ltb _ _ (c .before .before .before .before .before .before .before .before .before .before .if1 .left), ← c .before .before .before .before .before .before .before .before .before .first-form .ensures, c .before .before .before .before .before .before .before .form .given .1, ← c .before .before .before .before .before .fresh-state .ensures) (c .before .before .wrote .ensures)
+returns-2 c = rw (le-ltb _ _ (c .before .before .before .before .before .before .before .before .before .before .if1 .left), ← c .before .before .before .before .before .before .before .before .before .first-form .ensures .0, c .before .before .before .before .before .before .before .form .given .1, ← c .before .before .before .before .before .fresh-state .ensures) (c .before .before .wrote .ensures)
 
 same-length-2 : tie.Need-same-length-2
 same-length-2 c = search needs
 
 returns-3 : tie.Need-returns-3
 unfolding firstOf firstPlayed
-returns-3 c = rw (le-ltb _ _ (c .before .before .before .before .before .before .before .before .if1 .left), ← c .before .before .before .before .before .before .before .first-form .ensures, c .before .before .before .before .before .enum-told .given .1, ← c .before .before .before .before .no-state2 .ensures) (c .before .before .refused .ensures)
+returns-3 c = rw (le-ltb _ _ (c .before .before .before .before .before .before .before .before .if1 .left), ← c .before .before .before .before .before .before .before .first-form .ensures .0, c .before .before .before .before .before .enum-told .given .1, ← c .before .before .before .before .no-state2 .ensures) (c .before .before .refused .ensures)
 
 pub settings-line-spec : {M : Type 1} → statement M
 settings-line-spec =
