@@ -12,7 +12,7 @@ ghost use mathlib.Core.Path.{_≡_};
 ghost use Prim.Native.Nat.{_<_};
 ghost use Rattle.rules.specs.State.{unmade};
 ghost use Rattle.rules.specs.Refusals.{refusalOf};
-ghost use Rattle.rules.specs.Step.{zeroSettings, freshOrder, freshOf, begun, beginIn, beginOrder, beginOf};
+ghost use Rattle.rules.specs.Step.{freshOrder, freshOf, begun, beginIn, beginOrder, beginOf};
 ghost use Rattle.rules.specs.Answers.{freshNumber, beginNumber};
 
 // A place that is not made.

@@ -1,22 +1,18 @@
 -- The invariant of the machine: true of every fresh state, kept by begin and by step.
-use mathlib.Core.Bool.{not}
 use mathlib.Core.Path.{_≡_, refl, ap, _∙_}
 use Prim.Native.Nat.{ℕ, _+_, _≤_}
 use native.Mathlib.Omega.{arith}
-use lib.Dec.{ltb, leb, eqb}
 use lib.ListN.{length, length-set}
 use lib.Seq.{getD-set-same, getD-set-other}
 use borrow.Author.Tests.{ltb-false, eqb-true, not-false}
 use Rattle.rules.specs.State.{zeroThread, fresh, threadAt}
 use Rattle.rules.specs.Registers.{setOperation}
-use Rattle.rules.specs.Range.{inRange}
 use Rattle.rules.specs.Rows.{planOf}
 use Rattle.rules.specs.Step.{begun, beginOf, viewOf, put, apply, after, stepOf, runOf}
 use Rattle.rules.specs.declared.state.Settings.{Settings}
 use Rattle.rules.specs.declared.state.State.{State}
 use Rattle.rules.specs.declared.answer.Begin.{Begin}
-use Rattle.states.specs.Tests.{pick-by}
-use Rattle.states.specs.Calls.{step-state, run-state}
+use Rattle.states.specs.Calls.{begin-by, step-state, run-state}
 use Rattle.order.specs.Bridge.{put-length}
 use Rattle.order.specs.World.{worldOf}
 use Rattle.order.specs.Steady.{Safe}
@@ -77,16 +73,10 @@ module _ {s : State} (i : Invariant s) where
 
   -- begin keeps it, whatever the numbers, accepted or refused
   pub begin-kept : (t o k : ℕ) → Invariant (beginOf s t o k .state)
-  unfolding beginOf
   begin-kept t o k =
-      let Q : Begin → Type 0 = λ b. Invariant (b .state) in
-      pick-by Q (not (inRange s)) (λ e. i) λ r.
-      pick-by Q (ltb 2 o) (λ e. i) λ a.
-      pick-by Q (ltb 7 t) (λ e. i) λ b.
-      pick-by Q (ltb 63 k) (λ e. i) λ c.
-      pick-by Q (not (eqb (threadAt s t .phase) 0)) (λ e. i) λ d.
-      pick-by Q (leb 1000000 (s .begun)) (λ e. i) λ g.
-      begun-kept t o k (ltb-false 7 t b) (ltb-false 63 k c) (eqb-true (threadAt s t .phase) 0 (not-false _ d))
+      begin-by (λ (b : Begin). Invariant (b .state)) s t o k (λ n. i) λ h.
+      begun-kept t o k (ltb-false 7 t (h .1 .1 .0)) (ltb-false 63 k (h .1 .1 .1 .0))
+      (eqb-true (threadAt s t .phase) 0 (not-false _ (h .1 .1 .1 .1 .0)))
 
   -- step keeps it, whatever the number, accepted or refused
   pub step-kept : (t : ℕ) → Invariant (stepOf s t .state)

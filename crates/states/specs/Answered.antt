@@ -17,7 +17,7 @@ use Rattle.rules.specs.Rows.{rows, row25, planOf}
 use Rattle.rules.specs.Needs.{stuck}
 use Rattle.rules.specs.Refusals.{Refusal, first, refusalOf, first-map}
 use Rattle.rules.specs.Step.{viewBefore, viewOf, apply, after, ends, replyOf, stepOrder, refusedStep, stepOf, refusedRun, steps, stuckWithin, runTests, runOrder, runOf}
-use Rattle.rules.specs.Answers.{stepNumber, stepValues, stepSays, runNumber, runValues, stepsBefore, afterSteps, lastSays, runSays}
+use Rattle.rules.specs.Answers.{stepNumber, stepValues, stepSays, runNumber, runValues, stepsBefore, afterSteps, runSays}
 use Rattle.rules.specs.declared.state.Thread.{Thread}
 use Rattle.rules.specs.declared.state.State.{State}
 use Rattle.rules.specs.declared.answer.Step.{Step}

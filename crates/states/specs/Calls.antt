@@ -1,9 +1,8 @@
 -- What is kept where a call is accepted is kept by the call: begin, one step, counted steps.
-use mathlib.Core.Bool.{Bool, true, false, cond, not}
+use mathlib.Core.Bool.{Bool, true, false, cond}
 use mathlib.Core.Path.{_≡_, refl}
 use Prim.Native.Nat.{ℕ, zero, suc, _≤_, _<_}
 use borrow.Author.Tests.{ltb-false, leb-false, not-false}
-use lib.Dec.{eqb, leb, ltb}
 use Rattle.states.specs.Tests.{pick-by, None, first-by}
 use Rattle.rules.specs.State.{threadAt}
 use Rattle.rules.specs.Needs.{stuck}
