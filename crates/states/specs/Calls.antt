@@ -1,5 +1,5 @@
 -- What is kept where a call is accepted is kept by the call: begin, one step, counted steps.
-use mathlib.Core.Bool.{Bool, true, false, cond}
+use mathlib.Core.Bool.{Bool, true, false, cond, not}
 use mathlib.Core.Path.{_≡_, refl}
 use Prim.Native.Nat.{ℕ, zero, suc, _≤_, _<_}
 use borrow.Author.Tests.{ltb-false, leb-false, not-false}

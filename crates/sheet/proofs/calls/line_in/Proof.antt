@@ -39,21 +39,21 @@ same-length c = search needs
 
 returns-2 : tie.Need-returns-2
 unfolding lineIn playIn
-returns-2 c = rw (le-ltb _ _ (c .before .before .before .before .before .before .before .before .if1 .left), ← c .before .before .before .before .before .before .before .line-form .ensures, c .before .before .before .before .before .form .given .1) (c .before .before .begin-line .ensures)
+returns-2 c = rw (le-ltb _ _ (c .before .before .before .before .before .before .before .before .if1 .left), ← c .before .before .before .before .before .before .before .line-form .ensures .0, c .before .before .before .before .before .form .given .1) (c .before .before .begin-line .ensures)
 
 same-length-2 : tie.Need-same-length-2
 same-length-2 c = search needs
 
 returns-3 : tie.Need-returns-3
 unfolding lineIn playIn
-returns-3 c = rw (le-ltb _ _ (c .before .before .before .before .before .before .before .before .if1 .left), ← c .before .before .before .before .before .before .before .line-form .ensures, c .before .before .before .before .before .form2 .given .1) (c .before .before .steps-line .ensures)
+returns-3 c = rw (le-ltb _ _ (c .before .before .before .before .before .before .before .before .if1 .left), ← c .before .before .before .before .before .before .before .line-form .ensures .0, c .before .before .before .before .before .form2 .given .1) (c .before .before .steps-line .ensures)
 
 same-length-3 : tie.Need-same-length-3
 same-length-3 c = search needs
 
 returns-4 : tie.Need-returns-4
 unfolding lineIn playIn
-returns-4 c = rw (le-ltb _ _ (c .before .before .before .before .before .before .before .if1 .left), ← c .before .before .before .before .before .before .line-form .ensures, c .before .before .before .before .enum-told .given .1) (c .before .before .refused .ensures)
+returns-4 c = rw (le-ltb _ _ (c .before .before .before .before .before .before .before .if1 .left), ← c .before .before .before .before .before .before .line-form .ensures .0, c .before .before .before .before .enum-told .given .1) (c .before .before .refused .ensures)
 
 pub line-in-spec : {M : Type 1} → statement M
 line-in-spec =
