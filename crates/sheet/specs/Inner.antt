@@ -5,7 +5,7 @@ use mathlib.Core.List.{List}
 use Prim.Native.Nat.{ℕ}
 use Rattle.rules.specs.Range.{inRange}
 use Rattle.rules.specs.declared.state.State.{State}
-use Rattle.states.specs.Calls.{begin-in-range, run-in-range}
+use Rattle.states.specs.Calls.{begin-is-inner, run-is-inner}
 use Rattle.forms.specs.Form.{lineForm}
 use Rattle.forms.specs.declared.Line as Line
 use Rattle.sheet.specs.Sheet.{playForm, lineOf, playIn, lineIn}
@@ -14,8 +14,8 @@ module _ (s : State) (r : inRange s ≡ true) where
   -- what a line says
   pub play-in-range : (f : Line.Line) → playIn s f ≡ playForm s f
   unfolding playIn playForm
-  play-in-range (Line.the-variants.Begin t o k) = rw (begin-in-range s r t o k)
-  play-in-range (Line.the-variants.Steps t n) = rw (run-in-range s r t n)
+  play-in-range (Line.the-variants.Begin t o k) = rw (begin-is-inner s r t o k)
+  play-in-range (Line.the-variants.Steps t n) = rw (run-is-inner s r t n)
   play-in-range Line.the-variants.Slip = refl
 
   -- the whole call

@@ -57,13 +57,13 @@ unfolding runOf
 run-tests s t n = branch (not (inRange s)) (refusedRun s 7) (run-in-tests s t n)
 
 -- in a state that is in range the range test makes no difference: begin
-pub begin-in-range : (s : State) → inRange s ≡ true → (t o k : ℕ) → beginOf s t o k ≡ beginIn s t o k
+pub begin-is-inner : (s : State) → inRange s ≡ true → (t o k : ℕ) → beginOf s t o k ≡ beginIn s t o k
 unfolding beginOf
-begin-in-range s r t o k = rw r
+begin-is-inner s r t o k = rw r
 
 -- and counted steps
-pub run-in-range : (s : State) → inRange s ≡ true → (t n : ℕ) → runOf s t n ≡ runIn s t n
-run-in-range s r t n = rw (run-range, r)
+pub run-is-inner : (s : State) → inRange s ≡ true → (t n : ℕ) → runOf s t n ≡ runIn s t n
+run-is-inner s r t n = rw (run-range, r)
 
 -- ---- what holds of the state before, and is kept where the call is accepted, holds of the state after
 
