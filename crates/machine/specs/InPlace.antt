@@ -14,7 +14,6 @@ use Rattle.rules.specs.Needs.{stuck}
 use Rattle.rules.specs.Step.{viewBefore, nextOf, reaching, viewOf, put, apply, after}
 use Rattle.rules.specs.declared.state.Place.{Place}
 use Rattle.rules.specs.declared.state.State.{State}
-use Rattle.rules.specs.declared.row.View.{View}
 use Rattle.rules.specs.declared.row.Store.{Store}
 use Rattle.rules.specs.declared.row.Plan.{Plan}
 use Rattle.machine.specs.Commits.{can-commit, Planned}

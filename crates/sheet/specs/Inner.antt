@@ -5,20 +5,20 @@ use mathlib.Core.List.{List}
 use Prim.Native.Nat.{ℕ}
 use Rattle.rules.specs.Range.{inRange}
 use Rattle.rules.specs.declared.state.State.{State}
-use Rattle.states.specs.Calls.{begin-inner, run-inner}
+use Rattle.states.specs.Calls.{begin-is-inner, run-is-inner}
 use Rattle.forms.specs.Form.{lineForm}
 use Rattle.forms.specs.declared.Line as Line
 use Rattle.sheet.specs.Sheet.{playForm, lineOf, playIn, lineIn}
 
 module _ (s : State) (r : inRange s ≡ true) where
   -- what a line says
-  pub play-inner : (f : Line.Line) → playIn s f ≡ playForm s f
+  pub play-is-inner : (f : Line.Line) → playIn s f ≡ playForm s f
   unfolding playIn playForm
-  play-inner (Line.the-variants.Begin t o k) = rw (begin-inner s r t o k)
-  play-inner (Line.the-variants.Steps t n) = rw (run-inner s r t n)
-  play-inner Line.the-variants.Slip = refl
+  play-is-inner (Line.the-variants.Begin t o k) = rw (begin-is-inner s r t o k)
+  play-is-inner (Line.the-variants.Steps t n) = rw (run-is-inner s r t n)
+  play-is-inner Line.the-variants.Slip = refl
 
   -- the whole call
-  pub line-inner : (room : ℕ) (l : List ℕ) → lineIn room s l ≡ lineOf room s l
+  pub line-is-inner : (room : ℕ) (l : List ℕ) → lineIn room s l ≡ lineOf room s l
   unfolding lineIn lineOf
-  line-inner room l = rw (r, play-inner (lineForm l))
+  line-is-inner room l = rw (r, play-is-inner (lineForm l))

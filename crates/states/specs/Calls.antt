@@ -63,13 +63,13 @@ run-by P s t n = first-by P (runTests s t n) (refusedRun s) _
 -- ---- in a state that is in range the range test makes no difference
 
 -- begin
-pub begin-inner : (s : State) → inRange s ≡ true → (t o k : ℕ) → beginOf s t o k ≡ beginIn s t o k
+pub begin-is-inner : (s : State) → inRange s ≡ true → (t o k : ℕ) → beginOf s t o k ≡ beginIn s t o k
 unfolding beginOf
-begin-inner s r t o k = rw r
+begin-is-inner s r t o k = rw r
 
 -- counted steps
-pub run-inner : (s : State) → inRange s ≡ true → (t n : ℕ) → runOf s t n ≡ runIn s t n
-run-inner s r t n = rw (run-range, r)
+pub run-is-inner : (s : State) → inRange s ≡ true → (t n : ℕ) → runOf s t n ≡ runIn s t n
+run-is-inner s r t n = rw (run-range, r)
 
 -- ---- what holds of the state before, and is kept where the call is accepted, holds of the state after
 

@@ -3,7 +3,7 @@ use mathlib.Core.Path.{sym, _∙_}
 use borrow.Author.Tests.{lt-ltb, le-ltb, not-false}
 use Rattle.sheet.specs.Sheet.{lineOf}
 use Rattle.sheet.specs.Called.{called-silent}
-use Rattle.sheet.specs.Inner.{line-inner}
+use Rattle.sheet.specs.Inner.{line-is-inner}
 use borrow.Author.Needs.{needs}
 use Rattle.sheet.proofs.calls.line.Statement.{statement}
 use Rattle.sheet.proofs.calls.line.Tie as tie
@@ -32,7 +32,7 @@ same-length : tie.Need-same-length
 same-length c = search needs
 
 returns-3 : tie.Need-returns-3
-returns-3 c = rw (← line-inner _ (sym (c .before .before .before .before .before .in-range .ensures) ∙ not-false _ (c .before .before .before .before .if2 .left))) (c .before .before .line-in .ensures)
+returns-3 c = rw (← line-is-inner _ (sym (c .before .before .before .before .before .in-range .ensures) ∙ not-false _ (c .before .before .before .before .if2 .left))) (c .before .before .line-in .ensures)
 
 pub line-spec : {M : Type 1} → statement M
 line-spec =
