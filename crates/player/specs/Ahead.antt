@@ -1,6 +1,6 @@
 -- Turns behind others in one room: what a loop over the lines needs.
 use mathlib.Core.Bool.{Bool, true, false, cond, not, and-false}
-use mathlib.Core.List.{List, [], _∷_, _++_, append-nil}
+use mathlib.Core.List.{List, _++_, append-nil}
 use mathlib.Core.Path.{_≡_, refl, sym, ap, _∙_}
 use Prim.Native.Nat.{ℕ, zero, suc, _+_, _-_, _≤_, _<_}
 use native.Mathlib.Numerals.{add-one}
@@ -8,7 +8,7 @@ use native.Mathlib.Omega.{arith}
 use borrow.Author.Tests.{le-ltb, lt-ltb, le-leb, lt-leb, ne-eqb}
 use lib.Dec.{eqb}
 use lib.ListN.{length, take, drop, drop-of-length-le, length-drop, length-append}
-use lib.Seq.{sets, length-sets}
+use lib.Seq.{length-sets}
 use Rattle.rules.specs.Range.{inRange}
 use Rattle.rules.specs.declared.state.State.{State}
 use Rattle.text.specs.Text.{newline, until, Wrote}
@@ -67,7 +67,7 @@ none-fits room o h = rw (lt-ltb (room - length (o .sheet)) 256 (omega arith))
 one-fits : (room : ℕ) (o : Out) → o .player .stage ≡ 1 → inRange (o .player .state) ≡ true → length (o .sheet) + 256 ≤ room → goesOn room o ≡ true
 one-fits room o e r h = rw (le-ltb (room - length (o .sheet)) 256 (omega arith), e, r)
 
--- a turn has the number, the player and the length of its line
+-- a turn answers the length of its line
 turned-length : {o : Out} {l l′ : List ℕ} {r : Turn} → Turned o l r l′ → r .length ≡ length (o .sheet)
 turned-length t = ap (λ (r : Turn). r .length) (t .reply)
 

@@ -48,6 +48,11 @@ unfoldable pub taken : List Call → List ℕ
 taken [] = []
 taken (c ∷ cs) = take (c .answered .length) (c .after) ++ taken cs
 
+-- where calls leave the play
+unfoldable pub reached : Player → List Call → Player
+reached p [] = p
+reached p (c ∷ cs) = reached (c .answered .player) cs
+
 -- ---- what is still to be written
 
 -- a play that began with `opened`: xs is what it has still to write
@@ -270,18 +275,31 @@ rest-done (ended at s e h) k = h
 module _ (does : ℕ → List ℕ → Player → Out) (file : List ℕ)
     (fits : (room : ℕ) (p : Player) → length (does room file p .sheet) ≤ room)
     (on : (room : ℕ) → 256 ≤ room → (p : Player) (xs : List ℕ) → Rest file p xs → On file p xs (does room file p)) where
-  calls-write : {p : Player} {xs : List ℕ} {cs : List Call} → Calls does file p cs → Rest file p xs → turnsLeft file p ≤ length cs → taken cs ≡ xs
-  unfolding taken
+  calls-write : {p : Player} {xs : List ℕ} {cs : List Call} → Calls does file p cs → Rest file p xs → turnsLeft file (reached p cs) ≤ 0 → taken cs ≡ xs
+  unfolding taken reached
   calls-write none r h = sym (rest-done r h)
   calls-write {p} {xs} (call c {cs} wide t more) r h =
       let a = on (length (c .before)) wide p xs r in
       let e = ap (λ (u : Turn). u .player) (t .reply) in
-      let k : taken cs ≡ a .left = calls-write more (rw (sym e) at (a .rest)) (omega (arith, rw (sym e) at (a .fewer))) in
+      let k : taken cs ≡ a .left = calls-write more (rw (sym e) at (a .rest)) h in
       rw (turned-read t (fits (length (c .before)) p), k) (sym (a .sheet))
+
+  calls-fewer : {p : Player} {xs : List ℕ} {cs : List Call} → Calls does file p cs → Rest file p xs
+      → turnsLeft file (reached p cs) ≤ turnsLeft file p - length cs
+  unfolding reached
+  calls-fewer none r = omega arith
+  calls-fewer {p} {xs} (call c {cs} wide t more) r =
+      let a = on (length (c .before)) wide p xs r in
+      let e = ap (λ (u : Turn). u .player) (t .reply) in
+      omega (arith, calls-fewer more (rw (sym e) at (a .rest)), rw (sym e) at (a .fewer))
+
+  ended-calls : (cs : List Call) → Calls does file opened cs → reached opened cs .stage ≡ 2 → taken cs ≡ sheetOf file
+  unfolding turnsLeft
+  ended-calls cs c h = calls-write c (before refl refl) (rw h zero-le)
 
   all-calls : (cs : List Call) → Calls does file opened cs → length file + 2 ≤ length cs → taken cs ≡ sheetOf file
   unfolding turnsLeft opened
-  all-calls cs c h = calls-write c (before refl refl) (omega arith)
+  all-calls cs c h = calls-write c (before refl refl) (omega (arith, calls-fewer c (before refl refl)))
 
 -- What calls of `next` leave in rooms of at least 256 bytes, put together, is the sheet of the file: two calls more than it has bytes are enough.
 pub sheet-written : (file : List ℕ) (cs : List Call) → Calls turnOf file opened cs → length file + 2 ≤ length cs → taken cs ≡ sheetOf file
@@ -290,6 +308,10 @@ sheet-written file = all-calls turnOf file (λ room. turn-fits room file) (λ ro
 -- And so is what calls of `several` leave.
 pub several-written : (file : List ℕ) (cs : List Call) → Calls severalOf file opened cs → length file + 2 ≤ length cs → taken cs ≡ sheetOf file
 several-written file = all-calls severalOf file (λ room. several-fits room file) (λ room. several-on room file)
+
+-- The same where the play has come to its end, at which the program stops.
+pub several-ended : (file : List ℕ) (cs : List Call) → Calls severalOf file opened cs → reached opened cs .stage ≡ 2 → taken cs ≡ sheetOf file
+several-ended file = ended-calls severalOf file (λ room. several-fits room file) (λ room. several-on room file)
 
 -- ---- for a loop over the calls
 
