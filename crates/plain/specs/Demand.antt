@@ -12,7 +12,7 @@ use Rattle.runs.specs.Events.{eventsOf}
 use Rattle.order.specs.Invariant.{fresh-kept}
 use Rattle.order.specs.Search.{left-smaller, right-not-smaller, left-route-smaller, right-route-not-smaller}
 use Rattle.order.specs.Reached.{met-reached, reached-is-met}
-use Rattle.order.specs.Refusal.{step-not-8, list-not-8}
+use Rattle.order.specs.Refusal.{step-not-8, run-not-8, list-not-8}
 use Rattle.order.specs.Bounded.{at-most-42}
 use Rattle.plain.specs.Plain.{Plain}
 use Rattle.plain.specs.Counted.{plain-holders}
@@ -43,6 +43,7 @@ demand3 c calls =
       rightRoutes = λ y z r t q f. right-route-not-smaller (x .inv) r t q f;
       routes = λ t. at-most-42 c t cs;
       steps = λ t. step-not-8 (x .inv) t;
+      counts = λ t n. run-not-8 (x .inv) t n;
       list = list-not-8 (x .inv);
     })
   where

@@ -8,9 +8,9 @@ use Rattle.keys.specs.Keys.{has, listOf}
 use Rattle.rules.specs.State.{fresh, placeAt, threadAt}
 use Rattle.rules.specs.Places.{isRoute, isBase, keysOf, routeKey, childOn}
 use Rattle.rules.specs.Range.{settingsInRange}
-use Rattle.rules.specs.Step.{stepOf}
+use Rattle.rules.specs.Step.{stepOf, runOf}
 use Rattle.rules.specs.List.{reached, keyListOf}
-use Rattle.rules.specs.Answers.{stepNumber, listNumber}
+use Rattle.rules.specs.Answers.{stepNumber, runNumber, listNumber}
 use Rattle.rules.specs.declared.state.Settings.{Settings}
 use Rattle.rules.specs.declared.state.State.{State}
 use Rattle.rules.specs.declared.answer.ListReply as ListReply
@@ -58,6 +58,7 @@ pub record Demand3 (c : Settings) (cs : List Call) (s : State) (events : List Ev
       → isRoute (placeAt s y) ≡ true → routeKey (placeAt s x) ≤ routeKey (placeAt s y)
   -- no walk passes more than 42 routes
   pub routes : (t : ℕ) → passed t (fresh c) (movesOf (fresh c) cs) 0 ≤ 42
-  -- no step and no key list is refused with 8
+  -- no step, no counted steps and no key list is refused with 8
   pub steps : (t : ℕ) → stepNumber (stepOf s t .reply) ≡ 8 → ⊥
+  pub counts : (t n : ℕ) → runNumber (runOf s t n .reply) ≡ 8 → ⊥
   pub list : listNumber (keyListOf s) ≡ 8 → ⊥
