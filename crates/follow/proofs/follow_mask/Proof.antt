@@ -7,17 +7,8 @@ use Rattle.rules.specs.Follow.{maskOf, followers}
 use Rattle.follow.proofs.follow_mask.Statement.{statement}
 use Rattle.follow.proofs.follow_mask.Tie as tie
 
-mul-result : tie.Need-mul-result
-mul-result c = search needs
-
-array-read-result : tie.Need-array-read-result
-array-read-result c = search needs
-
-returns : tie.Need-returns
-returns c = search needs
-
 returns-2 : tie.Need-returns-2
 returns-2 c = sym (List·getD-eq-default (map maskOf followers) 0 (c .if1 .left))
 
 pub follow-mask-spec : {M : Type 1} → statement M
-follow-mask-spec = tie.close (tie.spec mul-result array-read-result returns returns-2)
+follow-mask-spec = tie.close (tie.spec (λ c. search needs) (λ c. search needs) (λ c. search needs) returns-2)

@@ -13,30 +13,9 @@ returns : tie.Need-returns
 unfolding isBelow
 returns c = slip-made _ _ (simp (List·getD-eq-default (c .before .before .args .part .now) 0 {n = 0} (omega (arith, c .if1 .taken))))
 
-shared-slice-read-if2 : tie.Need-shared-slice-read-if2
-shared-slice-read-if2 c = search needs
-
 returns-2 : tie.Need-returns-2
 unfolding isBelow
 returns-2 c = slip-made _ _ (simp (ne-eqb _ _ (c .if2 .taken)))
-
-sub-number-of : tie.Need-sub-number-of
-sub-number-of c = search needs
-
-part-number-of-start : tie.Need-part-number-of-start
-part-number-of-start c = search needs
-
-part-number-of-end : tie.Need-part-number-of-end
-part-number-of-end c = search needs
-
-number-of-requires : tie.Need-number-of-requires
-number-of-requires c κs = search needs
-
-enum-known-value : tie.Need-enum-known-value
-enum-known-value c = search needs
-
-enum-told : tie.Need-enum-told
-enum-told c = search needs
 
 returns-3 : tie.Need-returns-3
 unfolding isBelow
@@ -59,14 +38,14 @@ below-of-spec =
     tie.close
     (tie.spec
     returns
-    shared-slice-read-if2
+    (λ c. search needs)
     returns-2
-    sub-number-of
-    part-number-of-start
-    part-number-of-end
-    number-of-requires
-    enum-known-value
-    enum-told
+    (λ c. search needs)
+    (λ c. search needs)
+    (λ c. search needs)
+    (λ c κs. search needs)
+    (λ c. search needs)
+    (λ c. search needs)
     returns-3
     returns-4
     returns-5)

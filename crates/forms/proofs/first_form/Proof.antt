@@ -6,28 +6,13 @@ use borrow.Author.Needs.{needs}
 use Rattle.forms.proofs.first_form.Statement.{statement}
 use Rattle.forms.proofs.first_form.Tie as tie
 
-field-count-requires : tie.Need-field-count-requires
-field-count-requires c κs = search needs
-
 returns : tie.Need-returns
 unfolding firstForm ranged settingsForm isFirst
 returns c = first-says _ _ (simp (ne-eqb _ _ (λ e. c .if1 .taken (c .before .field-count .ensures ∙ e))))
 
-settings-form-requires : tie.Need-settings-form-requires
-settings-form-requires c κs = search needs
-
-enum-known-settings : tie.Need-enum-known-settings
-enum-known-settings c = search needs
-
-enum-told : tie.Need-enum-told
-enum-told c = search needs
-
 returns-2 : tie.Need-returns-2
 unfolding firstForm ranged
 returns-2 c = first-says _ _ (simp (sym (c .before .before .settings-form .ensures) ∙ c .enum-told .given .1))
-
-settings-in-range-requires : tie.Need-settings-in-range-requires
-settings-in-range-requires c κs = search needs
 
 returns-3 : tie.Need-returns-3
 unfolding firstForm ranged
@@ -41,12 +26,12 @@ pub first-form-spec : {M : Type 1} → statement M
 first-form-spec =
     tie.close
     (tie.spec
-    field-count-requires
+    (λ c κs. search needs)
     returns
-    settings-form-requires
-    enum-known-settings
-    enum-told
+    (λ c κs. search needs)
+    (λ c. search needs)
+    (λ c. search needs)
     returns-2
-    settings-in-range-requires
+    (λ c κs. search needs)
     returns-3
     returns-4)

@@ -6,17 +6,8 @@ use borrow.Author.Needs.{needs}
 use Rattle.forms.proofs.line_form.Statement.{statement}
 use Rattle.forms.proofs.line_form.Tie as tie
 
-field-count-requires : tie.Need-field-count-requires
-field-count-requires c κs = search needs
-
-begin-form-requires : tie.Need-begin-form-requires
-begin-form-requires c κs = search needs
-
 returns : tie.Need-returns
 returns c = line-says _ _ (c .begin-form .ensures)
-
-steps-form-requires : tie.Need-steps-form-requires
-steps-form-requires c κs = search needs
 
 returns-2 : tie.Need-returns-2
 returns-2 c = line-says _ _ (c .steps-form .ensures)
@@ -31,9 +22,9 @@ pub line-form-spec : {M : Type 1} → statement M
 line-form-spec =
     tie.close
     (tie.spec
-    field-count-requires
-    begin-form-requires
+    (λ c κs. search needs)
+    (λ c κs. search needs)
     returns
-    steps-form-requires
+    (λ c κs. search needs)
     returns-2
     returns-3)

@@ -7,27 +7,9 @@ use borrow.Author.Needs.{needs}
 use Rattle.forms.proofs.low_of.Statement.{statement}
 use Rattle.forms.proofs.low_of.Tie as tie
 
-below-of-requires : tie.Need-below-of-requires
-below-of-requires c κs = search needs
-
-enum-known-value : tie.Need-enum-known-value
-enum-known-value c = search needs
-
 returns : tie.Need-returns
 unfolding isMin lowOf
 returns c = let v = value-if _ _ _ (sym (c .before .before .before .below-of .ensures) ∙ c .before .value .given .1) in value-made _ _ _ (simp (v .0)) (simp (v .0, v .1))
-
-enum-told : tie.Need-enum-told
-enum-told c = search needs
-
-number-of-requires : tie.Need-number-of-requires
-number-of-requires c κs = search needs
-
-enum-known-zero : tie.Need-enum-known-zero
-enum-known-zero c = search needs
-
-enum-told-2 : tie.Need-enum-told-2
-enum-told-2 c = search needs
 
 returns-2 : tie.Need-returns-2
 unfolding isMin lowOf
@@ -51,13 +33,13 @@ pub low-of-spec : {M : Type 1} → statement M
 low-of-spec =
     tie.close
     (tie.spec
-    below-of-requires
-    enum-known-value
+    (λ c κs. search needs)
+    (λ c. search needs)
     returns
-    enum-told
-    number-of-requires
-    enum-known-zero
-    enum-told-2
+    (λ c. search needs)
+    (λ c κs. search needs)
+    (λ c. search needs)
+    (λ c. search needs)
     returns-2
     returns-3
     returns-4)

@@ -6,22 +6,13 @@ use borrow.Author.Needs.{needs}
 use Rattle.forms.proofs.operation_at.Statement.{statement}
 use Rattle.forms.proofs.operation_at.Tie as tie
 
-letter-at-requires : tie.Need-letter-at-requires
-letter-at-requires c κs = search needs
-
 returns : tie.Need-returns
 unfolding isOperation operationOf valueIf
 returns c = simp (sym (c .before .letter-at .ensures) ∙ c .if1 .taken)
 
-letter-at-requires-2 : tie.Need-letter-at-requires-2
-letter-at-requires-2 c κs = search needs
-
 returns-2 : tie.Need-returns-2
 unfolding isOperation operationOf valueIf
 returns-2 c = simp (sym (c .before .before .before .letter-at .ensures) ∙ c .before .before .if1 .left, sym (c .before .letter-at2 .ensures) ∙ c .if2 .taken)
-
-letter-at-requires-3 : tie.Need-letter-at-requires-3
-letter-at-requires-3 c κs = search needs
 
 returns-3 : tie.Need-returns-3
 unfolding isOperation operationOf valueIf
@@ -35,10 +26,10 @@ pub operation-at-spec : {M : Type 1} → statement M
 operation-at-spec =
     tie.close
     (tie.spec
-    letter-at-requires
+    (λ c κs. search needs)
     returns
-    letter-at-requires-2
+    (λ c κs. search needs)
     returns-2
-    letter-at-requires-3
+    (λ c κs. search needs)
     returns-3
     returns-4)

@@ -7,50 +7,17 @@ use borrow.Author.Needs.{needs}
 use Rattle.forms.proofs.settings_form.Statement.{statement}
 use Rattle.forms.proofs.settings_form.Tie as tie
 
-letter-at-requires : tie.Need-letter-at-requires
-letter-at-requires c κs = search needs
-
 returns : tie.Need-returns
 unfolding settingsForm isFirst settingsOf
 returns c = simp (c .before .before .before .pre, sym (c .before .letter-at .ensures) ∙ not-true _ (c .if1 .taken))
-
-number-at-requires : tie.Need-number-at-requires
-number-at-requires c κs = search needs
-
-enum-known-succ : tie.Need-enum-known-succ
-enum-known-succ c = search needs
-
-enum-told : tie.Need-enum-told
-enum-told c = search needs
 
 returns-2 : tie.Need-returns-2
 unfolding settingsForm isFirst settingsOf
 returns-2 c = simp (c .before .before .before .before .before .before .pre, sym (c .before .before .before .before .letter-at .ensures) ∙ not-false _ (c .before .before .before .if1 .left), slip-if _ _ (sym (c .before .before .number-at .ensures .0) ∙ c .enum-told .given .1))
 
-number-at-requires-2 : tie.Need-number-at-requires-2
-number-at-requires-2 c κs = search needs
-
-enum-known-fail : tie.Need-enum-known-fail
-enum-known-fail c = search needs
-
-enum-told-2 : tie.Need-enum-told-2
-enum-told-2 c = search needs
-
 returns-3 : tie.Need-returns-3
 unfolding settingsForm isFirst settingsOf
 returns-3 c = simp (c .before .before .before .before .before .before .before .before .before .before .pre, sym (c .before .before .before .before .before .before .before .before .letter-at .ensures) ∙ not-false _ (c .before .before .before .before .before .before .before .if1 .left), value-if _ _ _ (sym (c .before .before .before .before .before .before .number-at .ensures .0) ∙ c .before .before .before .before .succ .given .1) .0, slip-if _ _ (sym (c .before .before .number-at2 .ensures .0) ∙ c .enum-told2 .given .1))
-
-field-requires : tie.Need-field-requires
-field-requires c κs = search needs
-
-low-of-requires : tie.Need-low-of-requires
-low-of-requires c κs = search needs
-
-enum-known-low : tie.Need-enum-known-low
-enum-known-low c = search needs
-
-enum-told-3 : tie.Need-enum-told-3
-enum-told-3 c = search needs
 
 returns-4 : tie.Need-returns-4
 unfolding settingsForm isFirst settingsOf
@@ -62,15 +29,6 @@ returns-4 c =
       value-if _ _ _ (sym (c .before .before .before .before .before .before .before .number-at2 .ensures .0) ∙ c .before .before .before .before .before .fail .given .1) .0,
       rw (c .before .before .before .field .ensures) at (slip-if _ _ (sym (c .before .before .low-of .ensures) ∙ c .enum-told3 .given .1)),
     )
-
-number-at-requires-3 : tie.Need-number-at-requires-3
-number-at-requires-3 c κs = search needs
-
-enum-known-max : tie.Need-enum-known-max
-enum-known-max c = search needs
-
-enum-told-4 : tie.Need-enum-told-4
-enum-told-4 c = search needs
 
 returns-5 : tie.Need-returns-5
 unfolding settingsForm isFirst settingsOf
@@ -97,23 +55,23 @@ pub settings-form-spec : {M : Type 1} → statement M
 settings-form-spec =
     tie.close
     (tie.spec
-    letter-at-requires
+    (λ c κs. search needs)
     returns
-    number-at-requires
-    enum-known-succ
-    enum-told
+    (λ c κs. search needs)
+    (λ c. search needs)
+    (λ c. search needs)
     returns-2
-    number-at-requires-2
-    enum-known-fail
-    enum-told-2
+    (λ c κs. search needs)
+    (λ c. search needs)
+    (λ c. search needs)
     returns-3
-    field-requires
-    low-of-requires
-    enum-known-low
-    enum-told-3
+    (λ c κs. search needs)
+    (λ c κs. search needs)
+    (λ c. search needs)
+    (λ c. search needs)
     returns-4
-    number-at-requires-3
-    enum-known-max
-    enum-told-4
+    (λ c κs. search needs)
+    (λ c. search needs)
+    (λ c. search needs)
     returns-5
     returns-6)

@@ -7,34 +7,13 @@ use borrow.Author.Needs.{needs}
 use Rattle.forms.proofs.steps_form.Statement.{statement}
 use Rattle.forms.proofs.steps_form.Tie as tie
 
-letter-at-requires : tie.Need-letter-at-requires
-letter-at-requires c κs = search needs
-
 returns : tie.Need-returns
 unfolding lineForm isBegin isSteps
 returns c = simp (c .before .before .before .pre, sym (c .before .letter-at .ensures) ∙ not-true _ (c .if1 .taken))
 
-number-at-requires : tie.Need-number-at-requires
-number-at-requires c κs = search needs
-
-enum-known-thread : tie.Need-enum-known-thread
-enum-known-thread c = search needs
-
-enum-told : tie.Need-enum-told
-enum-told c = search needs
-
 returns-2 : tie.Need-returns-2
 unfolding lineForm isBegin isSteps
 returns-2 c = simp (c .before .before .before .before .before .before .pre, sym (c .before .before .before .before .letter-at .ensures) ∙ not-false _ (c .before .before .before .if1 .left), slip-if _ _ (sym (c .before .before .number-at .ensures .0) ∙ c .enum-told .given .1))
-
-number-at-requires-2 : tie.Need-number-at-requires-2
-number-at-requires-2 c κs = search needs
-
-enum-known-count : tie.Need-enum-known-count
-enum-known-count c = search needs
-
-enum-told-2 : tie.Need-enum-told-2
-enum-told-2 c = search needs
 
 returns-3 : tie.Need-returns-3
 unfolding lineForm isBegin isSteps
@@ -57,14 +36,14 @@ pub steps-form-spec : {M : Type 1} → statement M
 steps-form-spec =
     tie.close
     (tie.spec
-    letter-at-requires
+    (λ c κs. search needs)
     returns
-    number-at-requires
-    enum-known-thread
-    enum-told
+    (λ c κs. search needs)
+    (λ c. search needs)
+    (λ c. search needs)
     returns-2
-    number-at-requires-2
-    enum-known-count
-    enum-told-2
+    (λ c κs. search needs)
+    (λ c. search needs)
+    (λ c. search needs)
     returns-3
     returns-4)

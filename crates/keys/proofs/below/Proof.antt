@@ -7,9 +7,6 @@ use Rattle.keys.specs.Keys.{below}
 use Rattle.keys.proofs.below.Statement.{statement}
 use Rattle.keys.proofs.below.Tie as tie
 
-place-requires : tie.Need-place-requires
-place-requires c κs = search needs
-
 rem-result : tie.Need-rem-result
 rem-result c = rw (c .place .ensures) (pow-pos _)
 
@@ -22,4 +19,4 @@ unfolding below
 returns-2 c = sym (mod-eq-of-lt (lt-of-lt-of-le (c .before .fits .m .fits) (pow-mono (c .if1 .left))))
 
 pub below-spec : {M : Type 1} → statement M
-below-spec = tie.close (tie.spec place-requires rem-result returns returns-2)
+below-spec = tie.close (tie.spec (λ c κs. search needs) rem-result returns returns-2)

@@ -5,9 +5,6 @@ use Rattle.keys.specs.Keys.{from, below}
 use Rattle.keys.proofs.from.Statement.{statement}
 use Rattle.keys.proofs.from.Tie as tie
 
-below-requires : tie.Need-below-requires
-below-requires c κs = search needs
-
 sub-result : tie.Need-sub-result
 unfolding below
 sub-result c = rw (c .below .ensures) (mod-le _ _)
@@ -17,4 +14,4 @@ unfolding from below
 returns c = rw (c .below .ensures)
 
 pub from-spec : {M : Type 1} → statement M
-from-spec = tie.close (tie.spec below-requires sub-result returns)
+from-spec = tie.close (tie.spec (λ c κs. search needs) sub-result returns)

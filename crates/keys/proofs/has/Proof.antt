@@ -5,14 +5,8 @@ use Rattle.keys.specs.Laws.{has-large}
 use Rattle.keys.proofs.has.Statement.{statement}
 use Rattle.keys.proofs.has.Tie as tie
 
-shr-result : tie.Need-shr-result
-shr-result c = search needs
-
-returns : tie.Need-returns
-returns c = search needs
-
 returns-2 : tie.Need-returns-2
 returns-2 c = sym (has-large _ _ (c .before .fits .m .fits) (c .if1 .left))
 
 pub has-spec : {M : Type 1} → statement M
-has-spec = tie.close (tie.spec shr-result returns returns-2)
+has-spec = tie.close (tie.spec (λ c. search needs) (λ c. search needs) returns-2)

@@ -6,11 +6,8 @@ use lib.Pow.{pow-lt}
 use Rattle.keys.proofs.place.Statement.{statement}
 use Rattle.keys.proofs.place.Tie as tie
 
-shl-result : tie.Need-shl-result
-shl-result c = search needs
-
 returns : tie.Need-returns
 returns c = omega (arith, mod-eq-of-lt (pow-lt (c .pre)))
 
 pub place-spec : {M : Type 1} → statement M
-place-spec = tie.close (tie.spec shl-result returns)
+place-spec = tie.close (tie.spec (λ c. search needs) returns)

@@ -7,14 +7,8 @@ use Rattle.keys.specs.Laws.{with-old, with-large, with-lt}
 use Rattle.keys.proofs.with.Statement.{statement}
 use Rattle.keys.proofs.with.Tie as tie
 
-has-requires : tie.Need-has-requires
-has-requires c κs = search needs
-
 returns : tie.Need-returns
 returns c = sym (with-old _ _ (sym (c .before .has .ensures) ∙ c .if1 .taken))
-
-place-requires : tie.Need-place-requires
-place-requires c κs = search needs
 
 add-result : tie.Need-add-result
 add-result c =
@@ -32,4 +26,4 @@ returns-3 : tie.Need-returns-3
 returns-3 c = sym (with-large _ _ (c .if2 .left))
 
 pub with-spec : {M : Type 1} → statement M
-with-spec = tie.close (tie.spec has-requires returns place-requires add-result returns-2 returns-3)
+with-spec = tie.close (tie.spec (λ c κs. search needs) returns (λ c κs. search needs) add-result returns-2 returns-3)

@@ -6,9 +6,6 @@ use Rattle.keys.specs.Laws.{has-small, without-none}
 use Rattle.keys.proofs.without.Statement.{statement}
 use Rattle.keys.proofs.without.Tie as tie
 
-has-requires : tie.Need-has-requires
-has-requires c κs = search needs
-
 place-requires : tie.Need-place-requires
 place-requires c κs = has-small _ _ (c .before .before .fits .m .fits) (sym (c .before .has .ensures) ∙ c .if1 .taken)
 
@@ -22,4 +19,4 @@ returns-2 : tie.Need-returns-2
 returns-2 c = sym (without-none _ _ (sym (c .before .has .ensures) ∙ c .if1 .left))
 
 pub without-spec : {M : Type 1} → statement M
-without-spec = tie.close (tie.spec has-requires place-requires sub-result returns returns-2)
+without-spec = tie.close (tie.spec (λ c κs. search needs) place-requires sub-result returns returns-2)

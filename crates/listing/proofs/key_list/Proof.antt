@@ -20,15 +20,9 @@ says : (s : State) (r : ListReply) → r ≡ keyListOf s
 unfolding keyListOf
 says s r e = (e, (ap listNumber e ∙ first-map listNumber (listOrder s) Refused _, ap listValues e ∙ first-map listValues (listOrder s) Refused _))
 
-in-range-requires : tie.Need-in-range-requires
-in-range-requires c κs = search needs
-
 returns : tie.Need-returns
 unfolding keyListOf
 returns c = says _ _ (simp (c .if1 .taken, ← c .before .in-range .ensures))
-
-reached-requires : tie.Need-reached-requires
-reached-requires c κs = search needs
 
 returns-2 : tie.Need-returns-2
 unfolding keyListOf
@@ -39,4 +33,4 @@ unfolding keyListOf
 returns-3 c = says _ _ (simp (c .if2 .left, c .before .before .if1 .left, ← c .before .reached .ensures, ← c .before .before .before .in-range .ensures))
 
 pub key-list-spec : {M : Type 1} → statement M
-key-list-spec = tie.close (tie.spec in-range-requires returns reached-requires returns-2 returns-3)
+key-list-spec = tie.close (tie.spec (λ c κs. search needs) returns (λ c κs. search needs) returns-2 returns-3)

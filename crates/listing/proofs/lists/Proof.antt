@@ -4,12 +4,9 @@ use Rattle.rules.specs.List.{lists}
 use Rattle.listing.proofs.lists.Statement.{statement}
 use Rattle.listing.proofs.lists.Tie as tie
 
-union-requires : tie.Need-union-requires
-union-requires c κs = search needs
-
 returns : tie.Need-returns
 unfolding lists
 returns c = cc
 
 pub lists-spec : {M : Type 1} → statement M
-lists-spec = tie.close (tie.spec union-requires returns)
+lists-spec = tie.close (tie.spec (λ c κs. search needs) returns)

@@ -7,9 +7,6 @@ use Rattle.listing.specs.Gathered.{unseen}
 use Rattle.listing.proofs.reached.Statement.{statement}
 use Rattle.listing.proofs.reached.Tie as tie
 
-unmet-requires : tie.Need-unmet-requires
-unmet-requires c κs = search needs
-
 gather-requires : tie.Need-gather-requires
 unfolding unmet unseen
 gather-requires c κs = rw (c .unmet .ensures) (record { right = refl })
@@ -19,4 +16,4 @@ unfolding reached unmet
 returns c = rw (c .before .unmet .ensures) at (c .gather .ensures .same 129 (rw (c .before .unmet .ensures) (omega arith)))
 
 pub reached-spec : {M : Type 1} → statement M
-reached-spec = tie.close (tie.spec unmet-requires gather-requires returns)
+reached-spec = tie.close (tie.spec (λ c κs. search needs) gather-requires returns)

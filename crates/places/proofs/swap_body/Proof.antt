@@ -4,12 +4,6 @@ use borrow.Author.Tests.{eq-eqb, ne-eqb}
 use Rattle.places.proofs.swap_body.Statement.{statement}
 use Rattle.places.proofs.swap_body.Tie as tie
 
-enum-known-b : tie.Need-enum-known-b
-enum-known-b c = search needs
-
-enum-known-b-2 : tie.Need-enum-known-b-2
-enum-known-b-2 c = search needs
-
 returns : tie.Need-returns
 returns c = simp (c .before .b .given .1)
 
@@ -20,4 +14,4 @@ returns-3 : tie.Need-returns-3
 returns-3 c = simp (c .before .before .b2 .given .1, ne-eqb _ _ (c .if1 .left))
 
 pub swap-body-spec : {M : Type 1} → statement M
-swap-body-spec = tie.close (tie.spec enum-known-b enum-known-b-2 returns returns-2 returns-3)
+swap-body-spec = tie.close (tie.spec (λ c. search needs) (λ c. search needs) returns returns-2 returns-3)

@@ -3,11 +3,8 @@ use borrow.Author.Needs.{needs}
 use Rattle.places.proofs.takes_place.Statement.{statement}
 use Rattle.places.proofs.takes_place.Tie as tie
 
-swap-body-requires : tie.Need-swap-body-requires
-swap-body-requires c κs = search needs
-
 returns : tie.Need-returns
 returns c = cc
 
 pub takes-place-spec : {M : Type 1} → statement M
-takes-place-spec = tie.close (tie.spec swap-body-requires returns)
+takes-place-spec = tie.close (tie.spec (λ c κs. search needs) returns)

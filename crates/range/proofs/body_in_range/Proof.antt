@@ -4,12 +4,6 @@ use Rattle.rules.specs.Range.{bodyInRange}
 use Rattle.range.proofs.body_in_range.Statement.{statement}
 use Rattle.range.proofs.body_in_range.Tie as tie
 
-enum-told : tie.Need-enum-told
-enum-told c = search needs
-
-enum-known-b : tie.Need-enum-known-b
-enum-known-b c = search needs
-
 returns : tie.Need-returns
 unfolding bodyInRange
 returns c = simp (c .enum-told .given .1)
@@ -19,4 +13,4 @@ unfolding bodyInRange
 returns-2 c = simp (c .before .b .given .1)
 
 pub body-in-range-spec : {M : Type 1} → statement M
-body-in-range-spec = tie.close (tie.spec enum-told enum-known-b returns returns-2)
+body-in-range-spec = tie.close (tie.spec (λ c. search needs) (λ c. search needs) returns returns-2)

@@ -4,12 +4,9 @@ use Rattle.rules.specs.Range.{placeInRange}
 use Rattle.range.proofs.place_in_range.Statement.{statement}
 use Rattle.range.proofs.place_in_range.Tie as tie
 
-body-in-range-requires : tie.Need-body-in-range-requires
-body-in-range-requires c κs = search needs
-
 returns : tie.Need-returns
 unfolding placeInRange
 returns c = cc
 
 pub place-in-range-spec : {M : Type 1} → statement M
-place-in-range-spec = tie.close (tie.spec body-in-range-requires returns)
+place-in-range-spec = tie.close (tie.spec (λ c κs. search needs) returns)

@@ -4,12 +4,9 @@ use Rattle.rules.specs.Range.{threadInRange}
 use Rattle.range.proofs.thread_in_range.Statement.{statement}
 use Rattle.range.proofs.thread_in_range.Tie as tie
 
-registers-in-range-requires : tie.Need-registers-in-range-requires
-registers-in-range-requires c κs = search needs
-
 returns : tie.Need-returns
 unfolding threadInRange
 returns c = cc
 
 pub thread-in-range-spec : {M : Type 1} → statement M
-thread-in-range-spec = tie.close (tie.spec registers-in-range-requires returns)
+thread-in-range-spec = tie.close (tie.spec (λ c κs. search needs) returns)

@@ -5,9 +5,6 @@ use borrow.Author.Needs.{needs}
 use Rattle.reading.proofs.is_letter.Statement.{statement}
 use Rattle.reading.proofs.is_letter.Tie as tie
 
-shared-slice-read-result : tie.Need-shared-slice-read-result
-shared-slice-read-result c = search needs
-
 returns : tie.Need-returns
 unfolding isLetter
 returns c = simp (eq-eqb _ _ (c .before .if1 .taken))
@@ -17,4 +14,4 @@ unfolding isLetter
 returns-2 c = simp (ne-eqb _ _ (c .if1 .left))
 
 pub is-letter-spec : {M : Type 1} → statement M
-is-letter-spec = tie.close (tie.spec shared-slice-read-result returns returns-2)
+is-letter-spec = tie.close (tie.spec (λ c. search needs) returns returns-2)

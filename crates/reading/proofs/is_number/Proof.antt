@@ -14,9 +14,6 @@ returns-2 : tie.Need-returns-2
 unfolding isNumber
 returns-2 c = simp (le-leb _ _ (c .before .if1 .left), lt-leb _ _ (c .if2 .taken))
 
-digits-requires : tie.Need-digits-requires
-digits-requires c κs = search needs
-
 returns-3 : tie.Need-returns-3
 unfolding isNumber
 returns-3 c = simp (le-leb _ _ (c .before .before .before .if1 .left), le-leb _ _ (c .before .before .if2 .left), sym (c .before .digits .ensures) ∙ not-true _ (c .if3 .taken))
@@ -24,9 +21,6 @@ returns-3 c = simp (le-leb _ _ (c .before .before .before .if1 .left), le-leb _ 
 returns-4 : tie.Need-returns-4
 unfolding isNumber
 returns-4 c = simp (le-leb _ _ (c .before .before .before .before .if1 .left), le-leb _ _ (c .before .before .before .if2 .left), sym (c .before .before .digits .ensures) ∙ not-false _ (c .before .if3 .left), eq-eqb _ _ (c .if4 .taken))
-
-shared-slice-read-result : tie.Need-shared-slice-read-result
-shared-slice-read-result c = search needs
 
 returns-5 : tie.Need-returns-5
 unfolding isNumber
@@ -38,8 +32,8 @@ is-number-spec =
     (tie.spec
     returns
     returns-2
-    digits-requires
+    (λ c κs. search needs)
     returns-3
     returns-4
-    shared-slice-read-result
+    (λ c. search needs)
     returns-5)

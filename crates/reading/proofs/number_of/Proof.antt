@@ -6,9 +6,6 @@ use borrow.Author.Needs.{needs}
 use Rattle.reading.proofs.number_of.Statement.{statement}
 use Rattle.reading.proofs.number_of.Tie as tie
 
-is-number-requires : tie.Need-is-number-requires
-is-number-requires c κs = search needs
-
 value-requires : tie.Need-value-requires
 value-requires c κs = number-digits _ (sym (c .before .is-number .ensures) ∙ c .if1 .taken)
 
@@ -21,4 +18,4 @@ unfolding valueIf
 returns-2 c = number-says _ _ (simp (sym (c .before .is-number .ensures) ∙ c .if1 .left))
 
 pub number-of-spec : {M : Type 1} → statement M
-number-of-spec = tie.close (tie.spec is-number-requires value-requires returns returns-2)
+number-of-spec = tie.close (tie.spec (λ c κs. search needs) value-requires returns returns-2)

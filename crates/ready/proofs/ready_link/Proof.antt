@@ -6,30 +6,6 @@ use Rattle.rules.specs.Needs.{needs as rowNeeds}
 use Rattle.ready.proofs.ready_link.Statement.{statement}
 use Rattle.ready.proofs.ready_link.Tie as tie
 
-route-p-requires : tie.Need-route-p-requires
-route-p-requires c κs = search needs
-
-base-n-requires : tie.Need-base-n-requires
-base-n-requires c κs = search needs
-
-none-or-g-requires : tie.Need-none-or-g-requires
-none-or-g-requires c κs = search needs
-
-route-walk-requires : tie.Need-route-walk-requires
-route-walk-requires c κs = search needs
-
-base-requires : tie.Need-base-requires
-base-requires c κs = search needs
-
-base-n-requires-2 : tie.Need-base-n-requires-2
-base-n-requires-2 c κs = search needs
-
-maybe-route-requires : tie.Need-maybe-route-requires
-maybe-route-requires c κs = search needs
-
-base-n-requires-3 : tie.Need-base-n-requires-3
-base-n-requires-3 c κs = search needs
-
 returns : tie.Need-returns
 unfolding rowNeeds
 returns c = simp (c .before .before .before .match .keys1, c .none-or-g .ensures, c .before .base-n .ensures, c .before .before .route-p .ensures)
@@ -50,14 +26,14 @@ pub ready-link-spec : {M : Type 1} → statement M
 ready-link-spec =
     tie.close
     (tie.spec
-    route-p-requires
-    base-n-requires
-    none-or-g-requires
-    route-walk-requires
-    base-requires
-    base-n-requires-2
-    maybe-route-requires
-    base-n-requires-3
+    (λ c κs. search needs)
+    (λ c κs. search needs)
+    (λ c κs. search needs)
+    (λ c κs. search needs)
+    (λ c κs. search needs)
+    (λ c κs. search needs)
+    (λ c κs. search needs)
+    (λ c κs. search needs)
     returns
     returns-2
     returns-3

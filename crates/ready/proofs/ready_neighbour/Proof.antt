@@ -6,39 +6,6 @@ use Rattle.rules.specs.Needs.{needs as rowNeeds}
 use Rattle.ready.proofs.ready_neighbour.Statement.{statement}
 use Rattle.ready.proofs.ready_neighbour.Tie as tie
 
-route-p-requires : tie.Need-route-p-requires
-route-p-requires c κs = search needs
-
-base-b-requires : tie.Need-base-b-requires
-base-b-requires c κs = search needs
-
-route-walk-requires : tie.Need-route-walk-requires
-route-walk-requires c κs = search needs
-
-base-requires : tie.Need-base-requires
-base-requires c κs = search needs
-
-base-b-requires-2 : tie.Need-base-b-requires-2
-base-b-requires-2 c κs = search needs
-
-base-n-requires : tie.Need-base-n-requires
-base-n-requires c κs = search needs
-
-base-b-requires-3 : tie.Need-base-b-requires-3
-base-b-requires-3 c κs = search needs
-
-route-p-requires-2 : tie.Need-route-p-requires-2
-route-p-requires-2 c κs = search needs
-
-route-p-requires-3 : tie.Need-route-p-requires-3
-route-p-requires-3 c κs = search needs
-
-base-n-requires-2 : tie.Need-base-n-requires-2
-base-n-requires-2 c κs = search needs
-
-base-b-requires-4 : tie.Need-base-b-requires-4
-base-b-requires-4 c κs = search needs
-
 returns : tie.Need-returns
 unfolding rowNeeds
 returns c = simp (c .before .before .match .keys1, c .base-b .ensures, c .before .route-p .ensures)
@@ -67,17 +34,17 @@ pub ready-neighbour-spec : {M : Type 1} → statement M
 ready-neighbour-spec =
     tie.close
     (tie.spec
-    route-p-requires
-    base-b-requires
-    route-walk-requires
-    base-requires
-    base-b-requires-2
-    base-n-requires
-    base-b-requires-3
-    route-p-requires-2
-    route-p-requires-3
-    base-n-requires-2
-    base-b-requires-4
+    (λ c κs. search needs)
+    (λ c κs. search needs)
+    (λ c κs. search needs)
+    (λ c κs. search needs)
+    (λ c κs. search needs)
+    (λ c κs. search needs)
+    (λ c κs. search needs)
+    (λ c κs. search needs)
+    (λ c κs. search needs)
+    (λ c κs. search needs)
+    (λ c κs. search needs)
     returns
     returns-2
     returns-3

@@ -6,21 +6,6 @@ use Rattle.rules.specs.Needs.{needs as rowNeeds}
 use Rattle.ready.proofs.ready_search.Statement.{statement}
 use Rattle.ready.proofs.ready_search.Tie as tie
 
-route-walk-requires : tie.Need-route-walk-requires
-route-walk-requires c κs = search needs
-
-base-b-requires : tie.Need-base-b-requires
-base-b-requires c κs = search needs
-
-base-b-requires-2 : tie.Need-base-b-requires-2
-base-b-requires-2 c κs = search needs
-
-base-b-requires-3 : tie.Need-base-b-requires-3
-base-b-requires-3 c κs = search needs
-
-commitable-requires : tie.Need-commitable-requires
-commitable-requires c κs = search needs
-
 returns : tie.Need-returns
 unfolding rowNeeds
 returns c = simp (c .match .keys1)
@@ -45,11 +30,11 @@ pub ready-search-spec : {M : Type 1} → statement M
 ready-search-spec =
     tie.close
     (tie.spec
-    route-walk-requires
-    base-b-requires
-    base-b-requires-2
-    base-b-requires-3
-    commitable-requires
+    (λ c κs. search needs)
+    (λ c κs. search needs)
+    (λ c κs. search needs)
+    (λ c κs. search needs)
+    (λ c κs. search needs)
     returns
     returns-2
     returns-3

@@ -6,33 +6,6 @@ use Rattle.rules.specs.Needs.{needs as rowNeeds}
 use Rattle.ready.proofs.ready_splice.Statement.{statement}
 use Rattle.ready.proofs.ready_splice.Tie as tie
 
-route-p-requires : tie.Need-route-p-requires
-route-p-requires c κs = search needs
-
-route-walk-requires : tie.Need-route-walk-requires
-route-walk-requires c κs = search needs
-
-route-p-requires-2 : tie.Need-route-p-requires-2
-route-p-requires-2 c κs = search needs
-
-route-g-requires : tie.Need-route-g-requires
-route-g-requires c κs = search needs
-
-route-g-requires-2 : tie.Need-route-g-requires-2
-route-g-requires-2 c κs = search needs
-
-route-p-requires-3 : tie.Need-route-p-requires-3
-route-p-requires-3 c κs = search needs
-
-none-or-g-requires : tie.Need-none-or-g-requires
-none-or-g-requires c κs = search needs
-
-route-p-requires-4 : tie.Need-route-p-requires-4
-route-p-requires-4 c κs = search needs
-
-none-or-g-requires-2 : tie.Need-none-or-g-requires-2
-none-or-g-requires-2 c κs = search needs
-
 returns : tie.Need-returns
 unfolding rowNeeds
 returns c = simp (c .before .match .keys1, c .route-p .ensures)
@@ -61,15 +34,15 @@ pub ready-splice-spec : {M : Type 1} → statement M
 ready-splice-spec =
     tie.close
     (tie.spec
-    route-p-requires
-    route-walk-requires
-    route-p-requires-2
-    route-g-requires
-    route-g-requires-2
-    route-p-requires-3
-    none-or-g-requires
-    route-p-requires-4
-    none-or-g-requires-2
+    (λ c κs. search needs)
+    (λ c κs. search needs)
+    (λ c κs. search needs)
+    (λ c κs. search needs)
+    (λ c κs. search needs)
+    (λ c κs. search needs)
+    (λ c κs. search needs)
+    (λ c κs. search needs)
+    (λ c κs. search needs)
     returns
     returns-2
     returns-3

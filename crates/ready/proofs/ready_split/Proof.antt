@@ -6,24 +6,6 @@ use Rattle.rules.specs.Needs.{needs as rowNeeds}
 use Rattle.ready.proofs.ready_split.Statement.{statement}
 use Rattle.ready.proofs.ready_split.Tie as tie
 
-base-b-requires : tie.Need-base-b-requires
-base-b-requires c κs = search needs
-
-two-keys-requires : tie.Need-two-keys-requires
-two-keys-requires c κs = search needs
-
-base-b-requires-2 : tie.Need-base-b-requires-2
-base-b-requires-2 c κs = search needs
-
-none-or-p-requires : tie.Need-none-or-p-requires
-none-or-p-requires c κs = search needs
-
-route-requires : tie.Need-route-requires
-route-requires c κs = search needs
-
-base-b-requires-3 : tie.Need-base-b-requires-3
-base-b-requires-3 c κs = search needs
-
 returns : tie.Need-returns
 unfolding rowNeeds
 returns c = simp (c .before .before .match .keys1, c .two-keys .ensures, c .before .base-b .ensures)
@@ -40,12 +22,12 @@ pub ready-split-spec : {M : Type 1} → statement M
 ready-split-spec =
     tie.close
     (tie.spec
-    base-b-requires
-    two-keys-requires
-    base-b-requires-2
-    none-or-p-requires
-    route-requires
-    base-b-requires-3
+    (λ c κs. search needs)
+    (λ c κs. search needs)
+    (λ c κs. search needs)
+    (λ c κs. search needs)
+    (λ c κs. search needs)
+    (λ c κs. search needs)
     returns
     returns-2
     returns-3)

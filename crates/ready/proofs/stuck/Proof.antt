@@ -9,24 +9,6 @@ use Rattle.ready.proofs.Idle.{ready-idle, ready-past}
 use Rattle.ready.proofs.stuck.Statement.{statement}
 use Rattle.ready.proofs.stuck.Tie as tie
 
-base-b-requires : tie.Need-base-b-requires
-base-b-requires c κs = search needs
-
-ready-search-requires : tie.Need-ready-search-requires
-ready-search-requires c κs = search needs
-
-ready-split-requires : tie.Need-ready-split-requires
-ready-split-requires c κs = search needs
-
-ready-neighbour-requires : tie.Need-ready-neighbour-requires
-ready-neighbour-requires c κs = search needs
-
-ready-splice-requires : tie.Need-ready-splice-requires
-ready-splice-requires c κs = search needs
-
-ready-link-requires : tie.Need-ready-link-requires
-ready-link-requires c κs = search needs
-
 returns : tie.Need-returns
 unfolding stuck rowNeeds
 returns c = simp (c .before .match .keys1, c .base-b .ensures)
@@ -61,12 +43,12 @@ pub stuck-spec : {M : Type 1} → statement M
 stuck-spec =
     tie.close
     (tie.spec
-    base-b-requires
-    ready-search-requires
-    ready-split-requires
-    ready-neighbour-requires
-    ready-splice-requires
-    ready-link-requires
+    (λ c κs. search needs)
+    (λ c κs. search needs)
+    (λ c κs. search needs)
+    (λ c κs. search needs)
+    (λ c κs. search needs)
+    (λ c κs. search needs)
     returns
     returns-2
     returns-3

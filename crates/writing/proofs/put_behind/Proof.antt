@@ -7,12 +7,6 @@ use native.Mathlib.Omega.{arith}
 use Rattle.writing.proofs.put_behind.Statement.{statement}
 use Rattle.writing.proofs.put_behind.Tie as tie
 
-slice-write-room : tie.Need-slice-write-room
-slice-write-room c = search needs
-
-add-put-digits : tie.Need-add-put-digits
-add-put-digits c = search needs
-
 put-digits-requires : tie.Need-put-digits-requires
 put-digits-requires c κs = simp length-set (omega arith)
 
@@ -24,4 +18,4 @@ returns c = (wrote-both (wrote-byte _ _ _) (c .before .before .put-digits .ensur
 
 pub put-behind-spec : {M : Type 1} → statement M
 put-behind-spec =
-    tie.close (tie.spec slice-write-room add-put-digits put-digits-requires same-length returns)
+    tie.close (tie.spec (λ c. search needs) (λ c. search needs) put-digits-requires same-length returns)

@@ -6,15 +6,6 @@ use borrow.Author.Needs.{needs}
 use Rattle.writing.proofs.put_key.Statement.{statement}
 use Rattle.writing.proofs.put_key.Tie as tie
 
-has-requires : tie.Need-has-requires
-has-requires c κs = search needs
-
-put-behind-requires : tie.Need-put-behind-requires
-put-behind-requires c κs = search needs
-
-same-length : tie.Need-same-length
-same-length c = search needs
-
 returns : tie.Need-returns
 unfolding keyText
 returns c = (
@@ -27,4 +18,4 @@ unfolding keyText
 returns-2 c = (rw (sym (c .before .has .ensures) ∙ c .if1 .left) (wrote-none _ _), search needs)
 
 pub put-key-spec : {M : Type 1} → statement M
-put-key-spec = tie.close (tie.spec has-requires put-behind-requires same-length returns returns-2)
+put-key-spec = tie.close (tie.spec (λ c κs. search needs) (λ c κs. search needs) (λ c. search needs) returns returns-2)

@@ -13,9 +13,6 @@ returns : tie.Need-returns
 unfolding fitted
 returns c = rw (lt-ltb _ _ (c .if1 .taken)) (wrote-none _ _)
 
-slice-write-room : tie.Need-slice-write-room
-slice-write-room c = search needs
-
 put-behind-requires : tie.Need-put-behind-requires
 put-behind-requires c κs = simp length-set (omega arith)
 
@@ -27,9 +24,6 @@ put-keys-requires c κs = omega (arith, (simp length-set at (c .before .before .
 
 slice-write-room-2 : tie.Need-slice-write-room-2
 slice-write-room-2 c = omega (arith, (simp length-set at (c .before .before .before .before .before .before .before .before .before .before .put-behind .kept .0)), c .before .before .before .before .before .before .before .before .before .before .put-behind .ensures .1, c .before .before .before .before .before .before .put-behind2 .kept .0, c .before .before .before .before .before .before .put-behind2 .ensures .1, c .before .before .put-keys .kept .0, c .before .before .put-keys .ensures .1)
-
-add-result : tie.Need-add-result
-add-result c = search needs
 
 same-length : tie.Need-same-length
 same-length c = simp length-set (omega (arith, (simp length-set at (c .before .before .before .before .before .before .before .before .before .before .put-behind .kept .0)), c .before .before .before .before .before .before .put-behind2 .kept .0, c .before .before .put-keys .kept .0))
@@ -48,11 +42,11 @@ put-keys-line-spec =
     tie.close
     (tie.spec
     returns
-    slice-write-room
+    (λ c. search needs)
     put-behind-requires
     put-behind-requires-2
     put-keys-requires
     slice-write-room-2
-    add-result
+    (λ c. search needs)
     same-length
     returns-2)

@@ -9,18 +9,9 @@ use native.Mathlib.Omega.{arith}
 use Rattle.writing.proofs.put_line.Statement.{statement}
 use Rattle.writing.proofs.put_line.Tie as tie
 
-mul-if1 : tie.Need-mul-if1
-mul-if1 c = search needs
-
-add-if1 : tie.Need-add-if1
-add-if1 c = search needs
-
 returns : tie.Need-returns
 unfolding fitted
 returns c = rw (lt-ltb _ _ (c .if1 .taken)) (wrote-none _ _)
-
-slice-write-room : tie.Need-slice-write-room
-slice-write-room c = search needs
 
 put-tabbed-requires : tie.Need-put-tabbed-requires
 put-tabbed-requires c κs = simp length-set (omega arith)
@@ -42,10 +33,10 @@ pub put-line-spec : {M : Type 1} → statement M
 put-line-spec =
     tie.close
     (tie.spec
-    mul-if1
-    add-if1
+    (λ c. search needs)
+    (λ c. search needs)
     returns
-    slice-write-room
+    (λ c. search needs)
     put-tabbed-requires
     slice-write-room-2
     add-result

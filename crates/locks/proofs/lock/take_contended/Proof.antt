@@ -3,14 +3,8 @@ use borrow.Author.Needs.{needs}
 use Rattle.locks.proofs.lock.take_contended.Statement.{statement}
 use Rattle.locks.proofs.lock.take_contended.Tie as tie
 
-more-requires : tie.Need-more-requires
-more-requires c κs = search needs
-
-taken-requires : tie.Need-taken-requires
-taken-requires c κs = search needs
-
 returns : tie.Need-returns
 returns c = cc
 
 pub take-contended-spec : {M : Type 1} → statement M
-take-contended-spec = tie.close (tie.spec more-requires taken-requires returns)
+take-contended-spec = tie.close (tie.spec (λ c κs. search needs) (λ c κs. search needs) returns)

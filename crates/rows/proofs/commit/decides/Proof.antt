@@ -5,51 +5,21 @@ use Rattle.rules.specs.Rows.{decides}
 use Rattle.rows.proofs.commit.decides.Statement.{statement}
 use Rattle.rows.proofs.commit.decides.Tie as tie
 
-above-max-requires : tie.Need-above-max-requires
-above-max-requires c κs = search needs
-
-few-then-requires : tie.Need-few-then-requires
-few-then-requires c κs = search needs
-
-zero-requires : tie.Need-zero-requires
-zero-requires c κs = search needs
-
-commits-requires : tie.Need-commits-requires
-commits-requires c κs = search needs
-
 returns : tie.Need-returns
 unfolding decides
 returns c = simp (c .before .before .if2 .taken, c .before .before .before .before .if1 .taken, c .commits .ensures, c .before .zero .ensures, ← c .before .before .before .few-then .ensures, ← c .before .before .before .before .before .above-max .ensures)
-
-commits-requires-2 : tie.Need-commits-requires-2
-commits-requires-2 c κs = search needs
 
 returns-2 : tie.Need-returns-2
 unfolding decides
 returns-2 c = simp (c .before .if2 .left, c .before .before .before .if1 .taken, c .commits2 .ensures, ← c .before .before .few-then .ensures, ← c .before .before .before .before .above-max .ensures)
 
-below-min-requires : tie.Need-below-min-requires
-below-min-requires c κs = search needs
-
-zero-requires-2 : tie.Need-zero-requires-2
-zero-requires-2 c κs = search needs
-
-commits-requires-3 : tie.Need-commits-requires-3
-commits-requires-3 c κs = search needs
-
 returns-3 : tie.Need-returns-3
 unfolding decides
 returns-3 c = simp (eq-eqb _ _ (c .before .before .if4 .taken), c .before .before .before .if3 .taken, c .before .before .before .before .before .if1 .left, c .commits3 .ensures, c .before .zero2 .ensures, ← c .before .before .before .before .below-min .ensures, ← c .before .before .before .before .before .before .above-max .ensures)
 
-commits-requires-4 : tie.Need-commits-requires-4
-commits-requires-4 c κs = search needs
-
 returns-4 : tie.Need-returns-4
 unfolding decides
 returns-4 c = simp (ne-eqb _ _ (c .before .if4 .left), c .before .before .if3 .taken, c .before .before .before .before .if1 .left, c .commits4 .ensures, ← c .before .before .before .below-min .ensures, ← c .before .before .before .before .before .above-max .ensures)
-
-commits-requires-5 : tie.Need-commits-requires-5
-commits-requires-5 c κs = search needs
 
 returns-5 : tie.Need-returns-5
 unfolding decides
@@ -59,18 +29,18 @@ pub decides-spec : {M : Type 1} → statement M
 decides-spec =
     tie.close
     (tie.spec
-    above-max-requires
-    few-then-requires
-    zero-requires
-    commits-requires
+    (λ c κs. search needs)
+    (λ c κs. search needs)
+    (λ c κs. search needs)
+    (λ c κs. search needs)
     returns
-    commits-requires-2
+    (λ c κs. search needs)
     returns-2
-    below-min-requires
-    zero-requires-2
-    commits-requires-3
+    (λ c κs. search needs)
+    (λ c κs. search needs)
+    (λ c κs. search needs)
     returns-3
-    commits-requires-4
+    (λ c κs. search needs)
     returns-4
-    commits-requires-5
+    (λ c κs. search needs)
     returns-5)

@@ -3,14 +3,8 @@ use borrow.Author.Needs.{needs}
 use Rattle.rows.proofs.commit.keys_then.Statement.{statement}
 use Rattle.rows.proofs.commit.keys_then.Tie as tie
 
-keys-of-requires : tie.Need-keys-of-requires
-keys-of-requires c κs = search needs
-
-keys-after-requires : tie.Need-keys-after-requires
-keys-after-requires c κs = search needs
-
 returns : tie.Need-returns
 returns c = simp (c .keys-after .ensures, c .before .keys-of .ensures)
 
 pub keys-then-spec : {M : Type 1} → statement M
-keys-then-spec = tie.close (tie.spec keys-of-requires keys-after-requires returns)
+keys-then-spec = tie.close (tie.spec (λ c κs. search needs) (λ c κs. search needs) returns)

@@ -4,24 +4,9 @@ use Rattle.rules.specs.Rows.{row18}
 use Rattle.rows.proofs.join.row_18.Statement.{statement}
 use Rattle.rows.proofs.join.row_18.Tie as tie
 
-goes-requires : tie.Need-goes-requires
-goes-requires c κs = search needs
-
 returns : tie.Need-returns
 unfolding row18
 returns c = simp (c .before .if1 .taken, c .goes .ensures)
-
-at-phase-requires : tie.Need-at-phase-requires
-at-phase-requires c κs = search needs
-
-release-requires : tie.Need-release-requires
-release-requires c κs = search needs
-
-at-requires : tie.Need-at-requires
-at-requires c κs = search needs
-
-stores-1-requires : tie.Need-stores-1-requires
-stores-1-requires c κs = search needs
 
 returns-2 : tie.Need-returns-2
 unfolding row18
@@ -31,10 +16,10 @@ pub row-18-spec : {M : Type 1} → statement M
 row-18-spec =
     tie.close
     (tie.spec
-    goes-requires
+    (λ c κs. search needs)
     returns
-    at-phase-requires
-    release-requires
-    at-requires
-    stores-1-requires
+    (λ c κs. search needs)
+    (λ c κs. search needs)
+    (λ c κs. search needs)
+    (λ c κs. search needs)
     returns-2)

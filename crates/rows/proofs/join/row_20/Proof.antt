@@ -5,33 +5,9 @@ use Rattle.rules.specs.Rows.{row20}
 use Rattle.rows.proofs.join.row_20.Statement.{statement}
 use Rattle.rows.proofs.join.row_20.Tie as tie
 
-release-requires : tie.Need-release-requires
-release-requires c κs = search needs
-
-at-requires : tie.Need-at-requires
-at-requires c κs = search needs
-
-at-phase-requires : tie.Need-at-phase-requires
-at-phase-requires c κs = search needs
-
-no-store-requires : tie.Need-no-store-requires
-no-store-requires c κs = search needs
-
-stores-2-requires : tie.Need-stores-2-requires
-stores-2-requires c κs = search needs
-
 returns : tie.Need-returns
 unfolding row20
 returns c = simp (eq-eqb _ _ (c .before .before .if1 .taken), c .stores-2 .ensures, c .before .no-store .ensures, c .before .before .before .before .at-phase .ensures, c .before .before .before .before .before .at .ensures, c .before .before .before .before .before .before .release .ensures)
-
-release-requires-2 : tie.Need-release-requires-2
-release-requires-2 c κs = search needs
-
-at-requires-2 : tie.Need-at-requires-2
-at-requires-2 c κs = search needs
-
-stores-2-requires-2 : tie.Need-stores-2-requires-2
-stores-2-requires-2 c κs = search needs
 
 returns-2 : tie.Need-returns-2
 unfolding row20
@@ -41,13 +17,13 @@ pub row-20-spec : {M : Type 1} → statement M
 row-20-spec =
     tie.close
     (tie.spec
-    release-requires
-    at-requires
-    at-phase-requires
-    no-store-requires
-    stores-2-requires
+    (λ c κs. search needs)
+    (λ c κs. search needs)
+    (λ c κs. search needs)
+    (λ c κs. search needs)
+    (λ c κs. search needs)
     returns
-    release-requires-2
-    at-requires-2
-    stores-2-requires-2
+    (λ c κs. search needs)
+    (λ c κs. search needs)
+    (λ c κs. search needs)
     returns-2)

@@ -6,30 +6,9 @@ use Rattle.rules.specs.Rows.{row21}
 use Rattle.rows.proofs.join.row_21.Statement.{statement}
 use Rattle.rows.proofs.join.row_21.Tie as tie
 
-far-child-requires : tie.Need-far-child-requires
-far-child-requires c κs = search needs
-
-set-walk-requires : tie.Need-set-walk-requires
-set-walk-requires c κs = search needs
-
-at-phase-requires : tie.Need-at-phase-requires
-at-phase-requires c κs = search needs
-
-only-requires : tie.Need-only-requires
-only-requires c κs = search needs
-
 returns : tie.Need-returns
 unfolding row21
 returns c = simp (eq-eqb _ _ (sym (c .before .before .before .before .before .far-child .ensures) ∙ c .before .before .before .if1 .taken), c .only .ensures, c .before .at-phase .ensures, c .before .before .set-walk .ensures, c .before .before .before .before .before .far-child .ensures)
-
-set-walk-requires-2 : tie.Need-set-walk-requires-2
-set-walk-requires-2 c κs = search needs
-
-at-phase-requires-2 : tie.Need-at-phase-requires-2
-at-phase-requires-2 c κs = search needs
-
-only-requires-2 : tie.Need-only-requires-2
-only-requires-2 c κs = search needs
 
 returns-2 : tie.Need-returns-2
 unfolding row21
@@ -39,12 +18,12 @@ pub row-21-spec : {M : Type 1} → statement M
 row-21-spec =
     tie.close
     (tie.spec
-    far-child-requires
-    set-walk-requires
-    at-phase-requires
-    only-requires
+    (λ c κs. search needs)
+    (λ c κs. search needs)
+    (λ c κs. search needs)
+    (λ c κs. search needs)
     returns
-    set-walk-requires-2
-    at-phase-requires-2
-    only-requires-2
+    (λ c κs. search needs)
+    (λ c κs. search needs)
+    (λ c κs. search needs)
     returns-2)

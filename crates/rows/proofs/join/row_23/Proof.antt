@@ -4,15 +4,9 @@ use Rattle.rules.specs.Rows.{row23}
 use Rattle.rows.proofs.join.row_23.Statement.{statement}
 use Rattle.rows.proofs.join.row_23.Tie as tie
 
-at-phase-requires : tie.Need-at-phase-requires
-at-phase-requires c κs = search needs
-
-hangs-requires : tie.Need-hangs-requires
-hangs-requires c κs = search needs
-
 returns : tie.Need-returns
 unfolding row23
 returns c = simp (c .hangs .ensures, c .before .at-phase .ensures)
 
 pub row-23-spec : {M : Type 1} → statement M
-row-23-spec = tie.close (tie.spec at-phase-requires hangs-requires returns)
+row-23-spec = tie.close (tie.spec (λ c κs. search needs) (λ c κs. search needs) returns)

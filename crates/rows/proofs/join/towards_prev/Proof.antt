@@ -3,14 +3,8 @@ use borrow.Author.Needs.{needs}
 use Rattle.rows.proofs.join.towards_prev.Statement.{statement}
 use Rattle.rows.proofs.join.towards_prev.Tie as tie
 
-route-key-requires : tie.Need-route-key-requires
-route-key-requires c κs = search needs
-
-child-by-requires : tie.Need-child-by-requires
-child-by-requires c κs = search needs
-
 returns : tie.Need-returns
 returns c = simp (c .child-by .ensures, c .before .route-key .ensures)
 
 pub towards-prev-spec : {M : Type 1} → statement M
-towards-prev-spec = tie.close (tie.spec route-key-requires child-by-requires returns)
+towards-prev-spec = tie.close (tie.spec (λ c κs. search needs) (λ c κs. search needs) returns)

@@ -4,15 +4,9 @@ use Rattle.rules.specs.Rows.{row10}
 use Rattle.rows.proofs.neighbour.row_10.Statement.{statement}
 use Rattle.rows.proofs.neighbour.row_10.Tie as tie
 
-near-child-requires : tie.Need-near-child-requires
-near-child-requires c κs = search needs
-
-seeks-requires : tie.Need-seeks-requires
-seeks-requires c κs = search needs
-
 returns : tie.Need-returns
 unfolding row10
 returns c = simp (c .seeks .ensures, c .before .near-child .ensures)
 
 pub row-10-spec : {M : Type 1} → statement M
-row-10-spec = tie.close (tie.spec near-child-requires seeks-requires returns)
+row-10-spec = tie.close (tie.spec (λ c κs. search needs) (λ c κs. search needs) returns)

@@ -6,18 +6,6 @@ use Rattle.rules.specs.Rows.{planOf, rows}
 use Rattle.rows.proofs.phase.link_row.Statement.{statement}
 use Rattle.rows.proofs.phase.link_row.Tie as tie
 
-row-21-requires : tie.Need-row-21-requires
-row-21-requires c κs = search needs
-
-row-22-requires : tie.Need-row-22-requires
-row-22-requires c κs = search needs
-
-row-23-requires : tie.Need-row-23-requires
-row-23-requires c κs = search needs
-
-row-24-requires : tie.Need-row-24-requires
-row-24-requires c κs = search needs
-
 returns : tie.Need-returns
 unfolding planOf rows
 returns c = simp (c .before .match .keys1, c .row-21 .ensures)
@@ -38,10 +26,10 @@ pub link-row-spec : {M : Type 1} → statement M
 link-row-spec =
     tie.close
     (tie.spec
-    row-21-requires
-    row-22-requires
-    row-23-requires
-    row-24-requires
+    (λ c κs. search needs)
+    (λ c κs. search needs)
+    (λ c κs. search needs)
+    (λ c κs. search needs)
     returns
     returns-2
     returns-3

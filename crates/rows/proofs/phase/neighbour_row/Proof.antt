@@ -6,24 +6,6 @@ use Rattle.rules.specs.Rows.{planOf, rows}
 use Rattle.rows.proofs.phase.neighbour_row.Statement.{statement}
 use Rattle.rows.proofs.phase.neighbour_row.Tie as tie
 
-row-9-requires : tie.Need-row-9-requires
-row-9-requires c κs = search needs
-
-row-10-requires : tie.Need-row-10-requires
-row-10-requires c κs = search needs
-
-row-11-requires : tie.Need-row-11-requires
-row-11-requires c κs = search needs
-
-row-12-requires : tie.Need-row-12-requires
-row-12-requires c κs = search needs
-
-row-13-requires : tie.Need-row-13-requires
-row-13-requires c κs = search needs
-
-row-14-requires : tie.Need-row-14-requires
-row-14-requires c κs = search needs
-
 returns : tie.Need-returns
 unfolding planOf rows
 returns c = simp (c .before .match .keys1, c .row-9 .ensures)
@@ -52,12 +34,12 @@ pub neighbour-row-spec : {M : Type 1} → statement M
 neighbour-row-spec =
     tie.close
     (tie.spec
-    row-9-requires
-    row-10-requires
-    row-11-requires
-    row-12-requires
-    row-13-requires
-    row-14-requires
+    (λ c κs. search needs)
+    (λ c κs. search needs)
+    (λ c κs. search needs)
+    (λ c κs. search needs)
+    (λ c κs. search needs)
+    (λ c κs. search needs)
     returns
     returns-2
     returns-3

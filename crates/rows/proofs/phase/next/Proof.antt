@@ -5,21 +5,6 @@ use Rattle.rules.specs.Step.{nextOf}
 use Rattle.rows.proofs.phase.next.Statement.{statement}
 use Rattle.rows.proofs.phase.next.Tie as tie
 
-child-by-requires : tie.Need-child-by-requires
-child-by-requires c κs = search needs
-
-far-side-requires : tie.Need-far-side-requires
-far-side-requires c κs = search needs
-
-child-on-requires : tie.Need-child-on-requires
-child-on-requires c κs = search needs
-
-near-child-requires : tie.Need-near-child-requires
-near-child-requires c κs = search needs
-
-near-child-requires-2 : tie.Need-near-child-requires-2
-near-child-requires-2 c κs = search needs
-
 returns : tie.Need-returns
 unfolding nextOf
 returns c = simp (c .match .keys1)
@@ -50,11 +35,11 @@ pub next-spec : {M : Type 1} → statement M
 next-spec =
     tie.close
     (tie.spec
-    child-by-requires
-    far-side-requires
-    child-on-requires
-    near-child-requires
-    near-child-requires-2
+    (λ c κs. search needs)
+    (λ c κs. search needs)
+    (λ c κs. search needs)
+    (λ c κs. search needs)
+    (λ c κs. search needs)
     returns
     returns-2
     returns-3

@@ -6,21 +6,6 @@ use Rattle.rules.specs.Rows.{planOf, rows}
 use Rattle.rows.proofs.phase.search_row.Statement.{statement}
 use Rattle.rows.proofs.phase.search_row.Tie as tie
 
-row-1-requires : tie.Need-row-1-requires
-row-1-requires c κs = search needs
-
-row-2-requires : tie.Need-row-2-requires
-row-2-requires c κs = search needs
-
-row-3-requires : tie.Need-row-3-requires
-row-3-requires c κs = search needs
-
-row-4-requires : tie.Need-row-4-requires
-row-4-requires c κs = search needs
-
-row-5-requires : tie.Need-row-5-requires
-row-5-requires c κs = search needs
-
 returns : tie.Need-returns
 unfolding planOf rows
 returns c = λ h. simp (c .before .match .keys1, c .row-1 .ensures)
@@ -45,11 +30,11 @@ pub search-row-spec : {M : Type 1} → statement M
 search-row-spec =
     tie.close
     (tie.spec
-    row-1-requires
-    row-2-requires
-    row-3-requires
-    row-4-requires
-    row-5-requires
+    (λ c κs. search needs)
+    (λ c κs. search needs)
+    (λ c κs. search needs)
+    (λ c κs. search needs)
+    (λ c κs. search needs)
     returns
     returns-2
     returns-3

@@ -6,24 +6,6 @@ use Rattle.rules.specs.Rows.{planOf, rows}
 use Rattle.rows.proofs.phase.splice_row.Statement.{statement}
 use Rattle.rows.proofs.phase.splice_row.Tie as tie
 
-row-15-requires : tie.Need-row-15-requires
-row-15-requires c κs = search needs
-
-row-16-requires : tie.Need-row-16-requires
-row-16-requires c κs = search needs
-
-row-17-requires : tie.Need-row-17-requires
-row-17-requires c κs = search needs
-
-row-18-requires : tie.Need-row-18-requires
-row-18-requires c κs = search needs
-
-row-19-requires : tie.Need-row-19-requires
-row-19-requires c κs = search needs
-
-row-20-requires : tie.Need-row-20-requires
-row-20-requires c κs = search needs
-
 returns : tie.Need-returns
 unfolding planOf rows
 returns c = simp (c .before .match .keys1, c .row-15 .ensures)
@@ -52,12 +34,12 @@ pub splice-row-spec : {M : Type 1} → statement M
 splice-row-spec =
     tie.close
     (tie.spec
-    row-15-requires
-    row-16-requires
-    row-17-requires
-    row-18-requires
-    row-19-requires
-    row-20-requires
+    (λ c κs. search needs)
+    (λ c κs. search needs)
+    (λ c κs. search needs)
+    (λ c κs. search needs)
+    (λ c κs. search needs)
+    (λ c κs. search needs)
     returns
     returns-2
     returns-3

@@ -6,15 +6,6 @@ use Rattle.rules.specs.Rows.{planOf, rows}
 use Rattle.rows.proofs.phase.split_row.Statement.{statement}
 use Rattle.rows.proofs.phase.split_row.Tie as tie
 
-row-6-requires : tie.Need-row-6-requires
-row-6-requires c κs = search needs
-
-row-7-requires : tie.Need-row-7-requires
-row-7-requires c κs = search needs
-
-row-8-requires : tie.Need-row-8-requires
-row-8-requires c κs = search needs
-
 returns : tie.Need-returns
 unfolding planOf rows
 returns c = simp (c .before .match .keys1, c .row-6 .ensures)
@@ -29,4 +20,4 @@ returns-3 c = let e : c .before .before .args .v .thread .phase ≡ 8 = omega ar
 
 pub split-row-spec : {M : Type 1} → statement M
 split-row-spec =
-    tie.close (tie.spec row-6-requires row-7-requires row-8-requires returns returns-2 returns-3)
+    tie.close (tie.spec (λ c κs. search needs) (λ c κs. search needs) (λ c κs. search needs) returns returns-2 returns-3)

@@ -4,30 +4,9 @@ use Rattle.rules.specs.Rows.{searches}
 use Rattle.rows.proofs.plan.searches.Statement.{statement}
 use Rattle.rows.proofs.plan.searches.Tie as tie
 
-set-walk-requires : tie.Need-set-walk-requires
-set-walk-requires c κs = search needs
-
-is-route-requires : tie.Need-is-route-requires
-is-route-requires c κs = search needs
-
-at-phase-requires : tie.Need-at-phase-requires
-at-phase-requires c κs = search needs
-
-only-requires : tie.Need-only-requires
-only-requires c κs = search needs
-
 returns : tie.Need-returns
 unfolding searches
 returns c = simp (c .before .before .if1 .taken, c .only .ensures, c .before .at-phase .ensures, ← c .before .before .before .is-route .ensures, c .before .before .before .before .set-walk .ensures)
-
-set-base-requires : tie.Need-set-base-requires
-set-base-requires c κs = search needs
-
-at-phase-requires-2 : tie.Need-at-phase-requires-2
-at-phase-requires-2 c κs = search needs
-
-only-requires-2 : tie.Need-only-requires-2
-only-requires-2 c κs = search needs
 
 returns-2 : tie.Need-returns-2
 unfolding searches
@@ -37,12 +16,12 @@ pub searches-spec : {M : Type 1} → statement M
 searches-spec =
     tie.close
     (tie.spec
-    set-walk-requires
-    is-route-requires
-    at-phase-requires
-    only-requires
+    (λ c κs. search needs)
+    (λ c κs. search needs)
+    (λ c κs. search needs)
+    (λ c κs. search needs)
     returns
-    set-base-requires
-    at-phase-requires-2
-    only-requires-2
+    (λ c κs. search needs)
+    (λ c κs. search needs)
+    (λ c κs. search needs)
     returns-2)

@@ -4,15 +4,9 @@ use Rattle.rules.specs.Rows.{row1}
 use Rattle.rows.proofs.search.row_1.Statement.{statement}
 use Rattle.rows.proofs.search.row_1.Tie as tie
 
-set-prev-requires : tie.Need-set-prev-requires
-set-prev-requires c κs = search needs
-
-searches-requires : tie.Need-searches-requires
-searches-requires c κs = search needs
-
 returns : tie.Need-returns
 unfolding row1
 returns c = simp (c .searches .ensures, c .before .set-prev .ensures)
 
 pub row-1-spec : {M : Type 1} → statement M
-row-1-spec = tie.close (tie.spec set-prev-requires searches-requires returns)
+row-1-spec = tie.close (tie.spec (λ c κs. search needs) (λ c κs. search needs) returns)

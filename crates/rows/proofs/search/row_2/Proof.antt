@@ -4,18 +4,9 @@ use Rattle.rules.specs.Rows.{row2}
 use Rattle.rows.proofs.search.row_2.Statement.{statement}
 use Rattle.rows.proofs.search.row_2.Tie as tie
 
-set-prev-requires : tie.Need-set-prev-requires
-set-prev-requires c κs = search needs
-
-child-by-requires : tie.Need-child-by-requires
-child-by-requires c κs = search needs
-
-searches-requires : tie.Need-searches-requires
-searches-requires c κs = search needs
-
 returns : tie.Need-returns
 unfolding row2
 returns c = simp (c .searches .ensures, c .before .child-by .ensures, c .before .before .set-prev .ensures)
 
 pub row-2-spec : {M : Type 1} → statement M
-row-2-spec = tie.close (tie.spec set-prev-requires child-by-requires searches-requires returns)
+row-2-spec = tie.close (tie.spec (λ c κs. search needs) (λ c κs. search needs) (λ c κs. search needs) returns)
