@@ -1,4 +1,4 @@
--- "begun = committed + number of threads in phases 1 to 5".
+-- Begun is committed and the number of threads in phases 1 to 5.
 use mathlib.Core.Bool.{Bool, true, false, cond, not, _&&_, _||_}
 use mathlib.Core.List.{List, [], _∷_}
 use mathlib.Core.Path.{_≡_, refl, ap}

@@ -1,4 +1,4 @@
--- "for each key, the number of such bases that hold it is 1 or 0 as it is in the set or not".
+-- For each key, the number of bases that hold it is 1 or 0 as it is in the plain set or not.
 use mathlib.Core.Bool.{Bool, true, false, cond, _&&_, true≢false}
 use mathlib.Core.Path.{_≡_, refl, sym, ap, _∙_}
 use Prim.Native.Nat.{ℕ, zero, suc, _+_, _≤_, _<_}

@@ -7,7 +7,7 @@ ghost use lib.Dec.{ltb, leb};
 ghost use lib.ListN.{getD};
 ghost use Rattle.keys.specs.Keys.{size};
 ghost use Rattle.rules.specs.State.{zeroStatistics};
-ghost use Rattle.rules.specs.Places.{isBase, keysOf};
+ghost use Rattle.rules.specs.Places.{keysOf};
 ghost use Rattle.rules.specs.Rows.{aboveMax, belowMin};
 ghost use Rattle.rules.specs.Needs.{route, base, maybeRoute, routeP, routeG, routeWalk, baseB, baseN, noneOrP, noneOrG, commitable, needs, idle, stuck};
 

@@ -8,10 +8,9 @@ use crate::split;
 use rules::row::Plan;
 use rules::row::View;
 ghost use mathlib.Core.Path.{_≡_};
-ghost use mathlib.Core.Bool.{true, false};
+ghost use mathlib.Core.Bool.{true};
 ghost use Prim.Native.Nat.{_≤_, _<_};
 ghost use Rattle.rules.specs.Rows.{planOf};
-ghost use Rattle.rules.specs.Needs.{stuck};
 ghost use Rattle.rules.specs.Step.{nextOf};
 
 // The node that the rows at 1, 2, 9, 10 and 22 go to or ask for.

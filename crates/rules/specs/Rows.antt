@@ -70,7 +70,7 @@ searches v t w = only v (cond (isRoute (v .reached)) (atPhase 2 (setWalk w t)) (
 unfoldable pub seeks : View → Thread → ℕ → Plan
 seeks v t w = only v (cond (isRoute (v .reached)) (atPhase 10 (setWalk w t)) (atPhase 11 (setWalk w t)))
 
--- "far is .. right if B is then P's left child, else left"
+-- "Far": "right if B is then P's left child, else left"
 abbrev pub farSide : View → Bool
 farSide v = eqb (childOn false (v .prev)) (v .thread .base)
 

@@ -194,7 +194,8 @@ stepOf s t = first (stepOrder s t) (refusedStep s) (record { reply = replyOf s t
 abbrev pub refusedRun : State → ℕ → Run
 refusedRun s n = record { reply = RunReply.the-variants.Refused n; state = s }
 
--- "Steps are taken until n have been taken or the operation ends; waits count. If 8 comes inside .., the state before .. stands": here `from`
+-- "Steps are taken until n have been taken or the operation ends; waits count." "If 8 comes inside a counted line, the state before the line stands":
+-- here it is `from`
 unfoldable pub steps : ℕ → State → State → ℕ → ℕ → Run
 steps zero from s t taken = record { reply = RunReply.the-variants.Stops taken (threadAt s t .phase); state = s }
 steps (suc n) from s t taken =

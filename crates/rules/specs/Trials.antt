@@ -35,20 +35,20 @@ standing p o k holder statistics ks =
     }
 
 -- thread 0's next step: what it answers, and the statistics of base 0 then
-abbrev pub decides : State → List ℕ
-decides s = stepValues (stepOf s 0 .reply) ++ (placeAt (stepOf s 0 .state) 0 .lock .statistics ∷ [])
+abbrev pub stepped : State → List ℕ
+stepped s = stepValues (stepOf s 0 .reply) ++ (placeAt (stepOf s 0 .state) 0 .lock .statistics ∷ [])
 
 -- the keys of base n
 abbrev pub holds : ℕ → State → List ℕ
 holds n s = listOf (keysOf (placeAt s n))
 
 -- thread 0's operation to its end: the steps taken, the answer, the commit number; then the keys of base 0
-abbrev pub ends : State → List ℕ
-ends s = runValues (runOf s 0 1000 .reply) ++ holds 0 (runOf s 0 1000 .state)
+abbrev pub ran : State → List ℕ
+ran s = runValues (runOf s 0 1000 .reply) ++ holds 0 (runOf s 0 1000 .state)
 
 -- the key, the left and the right child of route n
-abbrev pub route : ℕ → State → List ℕ
-route n s = routeKey (placeAt s n) ∷ childOn false (placeAt s n) ∷ childOn true (placeAt s n) ∷ []
+abbrev pub routeAt : ℕ → State → List ℕ
+routeAt n s = routeKey (placeAt s n) ∷ childOn false (placeAt s n) ∷ childOn true (placeAt s n) ∷ []
 
 -- after its operation thread 0 looks up k in 5 steps: the steps taken, the answer, the commit number
 abbrev pub looksUp : ℕ → State → List ℕ
@@ -62,31 +62,35 @@ twoKeys = with (with 0 5) 6
 unfoldable pub halved : State
 halved = stepOf (standing 6 2 5 0 2001001 (with twoKeys 9)) 0 .state
 
+-- one for each rule that an edit changes
 unfoldable pub trials : List Trial
 trials =
     -- taking at phase 3: to 5, succ less
-    record { start = standing 3 2 5 nobody 2000000 twoKeys; asks = decides; wanted = 5 ∷ 1999999 ∷ [] }
+    record { start = standing 3 2 5 nobody 2000000 twoKeys; asks = stepped; wanted = 5 ∷ 1999999 ∷ [] }
     ∷
     -- taking at phase 4: to 5, fail more
-    record { start = standing 4 2 5 nobody 2000000 twoKeys; asks = decides; wanted = 5 ∷ 2000250 ∷ [] }
+    record { start = standing 4 2 5 nobody 2000000 twoKeys; asks = stepped; wanted = 5 ∷ 2000250 ∷ [] }
     ∷
     -- statistics exactly max: to 25, and they stay
-    record { start = standing 5 2 5 0 2001000 twoKeys; asks = decides; wanted = 25 ∷ 2001000 ∷ [] }
+    record { start = standing 5 2 5 0 2001000 twoKeys; asks = stepped; wanted = 25 ∷ 2001000 ∷ [] }
     ∷
     -- above max with 2 keys: to 6
-    record { start = standing 5 2 5 0 2001001 twoKeys; asks = decides; wanted = 6 ∷ 2001001 ∷ [] }
+    record { start = standing 5 2 5 0 2001001 twoKeys; asks = stepped; wanted = 6 ∷ 2001001 ∷ [] }
     ∷
     -- above max with 1 key: to 25, statistics 0
-    record { start = standing 5 2 5 0 2001001 (with 0 5); asks = decides; wanted = 25 ∷ 2000000 ∷ [] }
+    record { start = standing 5 2 5 0 2001001 (with 0 5); asks = stepped; wanted = 25 ∷ 2000000 ∷ [] }
     ∷
     -- delete of a key that is there: 2 steps, answer 1, commit 1; it is taken out
-    record { start = standing 5 1 5 0 2000000 twoKeys; asks = ends; wanted = 2 ∷ 1 ∷ 1 ∷ 6 ∷ [] }
+    record { start = standing 5 1 5 0 2000000 twoKeys; asks = ran; wanted = 2 ∷ 1 ∷ 1 ∷ 6 ∷ [] }
     ∷
     -- delete of a key that is not there: answer 0; the others stay
-    record { start = standing 5 1 7 0 2000000 twoKeys; asks = ends; wanted = 2 ∷ 0 ∷ 1 ∷ 5 ∷ 6 ∷ [] }
+    record { start = standing 5 1 7 0 2000000 twoKeys; asks = ran; wanted = 2 ∷ 0 ∷ 1 ∷ 5 ∷ 6 ∷ [] }
+    ∷
+    -- insert of a key that is there: answer 0; the keys stay
+    record { start = standing 5 0 5 0 2000000 twoKeys; asks = ran; wanted = 2 ∷ 0 ∷ 1 ∷ 5 ∷ 6 ∷ [] }
     ∷
     -- a split: the route has the key 6, the left and the right base
-    record { start = halved; asks = route 3; wanted = 6 ∷ 1 ∷ 2 ∷ [] }
+    record { start = halved; asks = routeAt 3; wanted = 6 ∷ 1 ∷ 2 ∷ [] }
     ∷
     -- the left base has the smaller keys
     record { start = halved; asks = holds 1; wanted = 5 ∷ [] }

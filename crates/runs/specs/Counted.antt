@@ -20,6 +20,7 @@ linesD =
     ∷ move (begins 0 2 2) ∷ counted 0 12
     ∷ []
 
+-- by computing
 pub lines-come-to : movesOf (fresh exampleSettings) linesD ≡ exampleD
 unfolding computes afterMove times afterCall movesOf plays joins linesD
 lines-come-to = refl

@@ -35,7 +35,7 @@ stray =
       threads = set (s .threads) 0 (atPhase 20 (threadAt s 0));
     }
 
--- before and after the splice, before and after the link
+-- before and after the splice, before and after the link; what carries no key; what is reached
 pub record Played : Type 0 where
   pub splice : Once 10 19
   pub spliced : Once 11 20
@@ -47,6 +47,7 @@ pub record Played : Type 0 where
   pub left : Reaches (joining 10) (joining 10 .root) 1
   pub right : Reaches (joining 10) (joining 10 .root) 2
 
+-- by computing
 pub played : Played
 unfolding computes one afterMove afterMoves howMany holders times plays joins joining stray
 played =

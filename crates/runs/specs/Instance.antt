@@ -1,5 +1,5 @@
 -- Example D as a run: demand 3 speaks of something. Seven operations are committed. Thread 0 has spliced and not linked: key 2 of the plain set
--- is in its base register alone, so the key list lacks it.
+-- is in its base register alone, so the key list lacks it. And two joins that cross.
 use mathlib.Core.List.{List, [], _∷_, _++_, map}
 use mathlib.Core.Path.{_≡_, refl}
 use Prim.Native.Nat.{ℕ, _+_}
@@ -42,6 +42,7 @@ joins n =
 abbrev pub exampleD : List Move
 exampleD = joins 12
 
+-- the commit number of an entry
 abbrev pub number : Entry → ℕ
 number e = e .number
 
@@ -58,6 +59,7 @@ pub record Seen (s : State) (log : List Entry) : Type 0 where
   -- "Phase 23 using the parent that N had at phase 9: the splice may have changed it": four steps later 2, 5, 7 and 9 are listed, as in example C
   pub linked : keyListOf (afterMoves s (times 4 (steps 0))) ≡ Keys 676
 
+-- by computing
 pub example-D : Seen (afterMoves (fresh exampleSettings) exampleD) (logOf (fresh exampleSettings) exampleD)
 unfolding computes one afterMove takesRoute passedBy passes passed howMany holders afterMoves logOf playLog numbers only times plays joins eventsOf
 example-D = record { phase = refl; set = refl; list = refl; count = refl; numbers = refl; stands = refl; routes = refl; linked = refl }
@@ -99,6 +101,7 @@ pub record Crossed (s : State) : Type 0 where
   pub list : keyListOf (afterMoves s (times 8 (steps 0))) ≡ Keys 126
   pub phase : threadAt s 0 .phase ≡ 15
 
+-- by computing
 pub crossed : Crossed (afterMoves (fresh crossSettings) crossing)
 unfolding computes one afterMove takesRoute passedBy passes passed howMany holders afterMoves logOf playLog times plays contended grown crossing
 crossed = record { count = refl; list = refl; phase = refl }

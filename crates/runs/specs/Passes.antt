@@ -6,10 +6,9 @@ use Prim.Native.Nat.{ℕ, _+_}
 use lib.Dec.{eqb}
 use Rattle.rules.specs.State.{placeAt, threadAt}
 use Rattle.rules.specs.Needs.{route}
-use Rattle.rules.specs.Step.{after, stepOf}
-use Rattle.rules.specs.Answers.{stepNumber}
+use Rattle.rules.specs.Step.{after}
 use Rattle.rules.specs.declared.state.State.{State}
-use Rattle.runs.specs.Calls.{Move, begins, steps, afterMove}
+use Rattle.runs.specs.Calls.{Move, begins, steps, afterMove, accepted}
 
 -- a step at this phase starts a walk
 abbrev pub walkStarts : ℕ → Bool
@@ -38,7 +37,7 @@ passedBy s t n =
 -- after a move: only an accepted step of thread t counts
 unfoldable pub passes : ℕ → State → Move → ℕ → ℕ
 passes t s (begins u o k) n = n
-passes t s (steps u) n = cond (eqb u t && eqb (stepNumber (stepOf s u .reply)) 0) (passedBy s t n) n
+passes t s (steps u) n = cond (eqb u t && accepted s u) (passedBy s t n) n
 
 -- after some moves
 unfoldable pub passed : ℕ → State → List Move → ℕ → ℕ

@@ -24,6 +24,7 @@ pub record Stood : Type 0 where
   pub committed-yet : Stands 2 6 (done (record { thread = 1; operation = 0; key = 7; answer = 1; number = 3 }))
   pub ended : Stands 6 0 nothing
 
+-- by computing
 pub stood : Stood
 unfolding computes one afterMove afterMoves times plays waited dueOf
 stood =

@@ -19,6 +19,7 @@ pub record Walked : Type 0 where
   pub at-23 : threadAt (afterMoves (fresh crossSettings) (descends 17)) 1 .phase ≡ 23
   pub at-23-passes : passed 1 (fresh crossSettings) (descends 17) 0 ≡ 2
 
+-- by computing
 pub walked : Walked
 unfolding computes one afterMove afterMoves takesRoute passedBy passes passed times plays contended grown descends
 walked = record { at-22 = refl; at-22-passes = refl; at-23 = refl; at-23-passes = refl }

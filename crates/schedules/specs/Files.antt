@@ -9,12 +9,15 @@ use borrow.Author.Tests.{lt-ltb, le-ltb}
 use Rattle.keys.specs.Keys.{listOf}
 use Rattle.rules.specs.State.{fresh}
 use Rattle.rules.specs.List.{reached, keyListOf}
+use Rattle.rules.specs.Answers.{listValues}
 use Rattle.rules.specs.declared.state.Settings.{Settings}
 use Rattle.rules.specs.declared.state.State.{State}
 use Rattle.rules.specs.declared.answer.ListReply as ListReply
 use Rattle.runs.specs.Calls.{movesOf}
-use Rattle.runs.specs.Log.{logOf}
+use Rattle.runs.specs.PlainSet.{empty, keysIn}
+use Rattle.runs.specs.Log.{logOf, playLog}
 use Rattle.runs.specs.Events.{eventsOf}
+use Rattle.runs.specs.Holders.{Quiet}
 use Rattle.runs.specs.Demand.{Demand3}
 use Rattle.states.specs.Tests.{pick}
 use Rattle.order.specs.Invariant.{Invariant, fresh-kept}
@@ -37,6 +40,8 @@ pub record PlayedFile (file : List ℕ) (c : Settings) (ls : List (List ℕ)) (s
   pub list : keyListOf s ≡ ListReply.the-variants.Keys (reached s .keys)
   -- the sheet is `R`, the sheet lines of these lines, and `E` with the counts and the keys of that state
   pub sheet : sheetOf file ≡ sheetLine 82 [] ++ (linesSheet (fresh c) ls ++ endText s (listOf (reached s .keys)))
+  -- these keys are those of the plain set where no thread is in phases 20 to 23
+  pub plain : Quiet s → listOf (reached s .keys) ≡ keysIn (playLog empty (logOf (fresh c) (movesOf (fresh c) (callsOf ls))))
   -- "it has one line for each schedule line, then `E`"
   pub each : length (sheetLines (fresh c) ls) ≡ length ls
   pub one : (i : ℕ) → i < length ls → OneLine (getD (sheetLines (fresh c) ls) i [])
@@ -91,6 +96,7 @@ file-played file first ls c h e z =
       sheet =
           whole ∙ ap (λ (l : List ℕ). sheetLine 82 [] ++ l)
           (sheet-ends (fresh c) ls ∙ ap (λ (r : ListReply.ListReply). linesSheet (fresh c) ls ++ endForm s r .sheet) keys);
+      plain = λ q. let k = schedule-demand3 c ls .listed (first-in-range first c z) q in ap listValues (sym keys ∙ k .accepted) ∙ k .rising;
       each = lines-each (fresh c) ls;
       one = lines-one (fresh c) ls;
       count =

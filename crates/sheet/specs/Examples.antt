@@ -104,6 +104,7 @@ twiceContended settings operation =
     ∷ line "S 1 1000" "D 1 2 1 2"
     ∷ []
 
+-- A to J
 unfoldable pub examples : List Example
 examples =
     -- A
@@ -254,7 +255,7 @@ saidOf (l ∷ ls) = map (λ (f : Fact). f .said) (l .facts) ++ saidOf ls
 abbrev pub played : Example → Outcome
 played e = record { sheet = sheetOf (ended (scheduleOf e)); unended = sheetOf (parted (scheduleOf e)); numbers = askedOf (e .lines) }
 
--- what document 01 says
+-- what is wanted: what document 01 says, and where it gives no whole sheet, the lines that its rules give
 abbrev pub written : Example → Outcome
 written e =
     let sheet = ended (map (λ (l : Line). l .sheet) (e .lines) ++ (e .last ∷ [])) in

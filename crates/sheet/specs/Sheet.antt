@@ -47,7 +47,7 @@ narrow room = ltb room 256
 -- Sheet: `B thread`
 abbrev pub beginSheet : ℕ → BeginReply.BeginReply → List ℕ
 beginSheet t BeginReply.the-variants.Begun = sheetLine 66 (t ∷ [])
-beginSheet t (BeginReply.the-variants.Refused n) = refusal n
+beginSheet t (BeginReply.the-variants.Refused n) = refusal (beginNumber (BeginReply.the-variants.Refused n))
 
 -- a begin line by what begin answers
 unfoldable pub beginLine : ℕ → State → BeginReply.BeginReply → Played
@@ -57,7 +57,7 @@ beginLine t s r = record { number = beginNumber r; state = s; sheet = beginSheet
 abbrev pub runSheet : ℕ → RunReply.RunReply → List ℕ
 runSheet t (RunReply.the-variants.Stops n p) = sheetLine 83 (t ∷ runValues (RunReply.the-variants.Stops n p))
 runSheet t (RunReply.the-variants.Ends n a c) = sheetLine 68 (t ∷ runValues (RunReply.the-variants.Ends n a c))
-runSheet t (RunReply.the-variants.Refused n) = refusal n
+runSheet t (RunReply.the-variants.Refused n) = refusal (runNumber (RunReply.the-variants.Refused n))
 
 -- a step line by what the counted steps answer
 unfoldable pub runLine : ℕ → State → RunReply.RunReply → Played
@@ -91,7 +91,7 @@ endText s ks = keysLine 69 (s .committed ∷ s .made ∷ []) ks
 -- the keys of the key list, or its refusal
 abbrev pub endSheet : State → ListReply.ListReply → List ℕ
 endSheet s (ListReply.the-variants.Keys ks) = endText s (listValues (ListReply.the-variants.Keys ks))
-endSheet s (ListReply.the-variants.Refused n) = refusal n
+endSheet s (ListReply.the-variants.Refused n) = refusal (listNumber (ListReply.the-variants.Refused n))
 
 -- the end line by what the key list answers
 unfoldable pub endForm : State → ListReply.ListReply → Played
