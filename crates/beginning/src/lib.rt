@@ -9,10 +9,9 @@ use rules::state::Place;
 use rules::state::Settings;
 use rules::state::State;
 ghost use mathlib.Core.Path.{_≡_};
-ghost use Prim.Native.Nat.{_<_};
 ghost use Rattle.rules.specs.State.{unmade};
 ghost use Rattle.rules.specs.Refusals.{refusalOf};
-ghost use Rattle.rules.specs.Step.{freshOrder, freshOf, begun, beginIn, beginOrder, beginOf};
+ghost use Rattle.rules.specs.Step.{freshOrder, freshOf, beginIn, beginOrder, beginOf};
 ghost use Rattle.rules.specs.Answers.{freshNumber, beginNumber};
 
 // A place that is not made.
@@ -88,22 +87,8 @@ fn refused_begin(s: State, number: u8) -> Begin
     }
 }
 
-// Begun goes up by one, and the thread gets the operation, the key and phase 1.
-fn begun(s: State, t: u32, o: u8, k: u8) -> State
-    requires { ⌜ (t < 8) × (s .begun < 1000000) ⌝ }
-    ensures { λ r. ⌜ r ≡ begun s t o k ⌝ }
-{
-    let next = s.begun + 1;
-    let i = t as usize;
-    let mut u = s;
-    let th = u.threads[i];
-    let begins = registers::set_operation(o, k, th);
-    u.threads[i] = begins;
-    u.begun = next;
-    u
-}
-
-// Begin operation `o` (0 insert, 1 delete, 2 lookup) on key `k` in thread `t`, without the range test.
+// Begin operation `o` (0 insert, 1 delete, 2 lookup) on key `k` in thread `t`, without the range test: begun goes up by one, and the thread gets
+// the operation, the key and phase 1.
 pub fn begin_in(s: State, t: u32, o: u32, k: u32) -> Begin
     ensures { λ r. ⌜ r ≡ beginIn s t o k ⌝ }
 {
@@ -117,17 +102,21 @@ pub fn begin_in(s: State, t: u32, o: u32, k: u32) -> Begin
         return refused_begin(s, 4);
     }
     let i = t as usize;
-    let th = s.threads[i];
+    let mut u = s;
+    let th = u.threads[i];
     if th.phase != 0 {
         return refused_begin(s, 5);
     }
-    let n = s.begun;
+    let n = u.begun;
     if 1000000 <= n {
         return refused_begin(s, 11);
     }
+    let begins = registers::set_operation(o as u8, k as u8, th);
+    u.threads[i] = begins;
+    u.begun = n + 1;
     Begin {
         reply: BeginReply::Begun,
-        state: begun(s, t, o as u8, k as u8),
+        state: u,
     }
 }
 

@@ -184,7 +184,7 @@ fn lines(t: Turn, file: &[u8], room: &mut [u8]) -> Turn
     while another(at, file.len(), used, room.len()) {
         let rest = &file[at..];
         let end = reading::until(rest, 10);
-        let a = sheet::calls::line(s, &rest[..end], &mut room[used..]);
+        let a = sheet::calls::line_in(s, &rest[..end], &mut room[used..]);
         s = a.state;
         number = last_refused(number, a.number);
         used += a.length;

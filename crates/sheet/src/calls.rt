@@ -13,8 +13,9 @@ ghost use lib.ListN.{length};
 ghost use Rattle.rules.specs.State.{fresh};
 ghost use Rattle.rules.specs.Range.{settingsInRange};
 ghost use Rattle.rules.specs.Step.{zeroSettings, beginIn, runIn};
-ghost use Rattle.text.specs.Text.{sheetLine};
-ghost use Rattle.sheet.specs.Sheet.{wrote, refused, beginLine, runLine, endForm, firstOf, lineIn, lineOf, endOf};
+ghost use Rattle.rules.specs.Answers.{beginNumber, runNumber};
+ghost use Rattle.text.specs.Text.{sheetLine, Wrote};
+ghost use Rattle.sheet.specs.Sheet.{refusal, wrote, refused, beginSheet, beginLine, runSheet, runLine, endForm, firstOf, lineIn, lineOf, endOf};
 ghost use Rattle.sheet.specs.Called.{Called, answer};
 
 // The least room that is written to.
@@ -52,12 +53,20 @@ fn wrote(s: State, letter: u8, numbers: &[u32], room: &mut [u8]) -> Answer
 }
 
 // `X` and the refusal number.
+fn put_refusal(number: u8, room: &mut [u8]) -> usize
+    requires { ⌜ 256 ≤ length (now room) ⌝ }
+    ensures { λ r. ⌜ Wrote (now (room .entry)) 0 (refusal number) r (now (room .exit)) ⌝ }
+{
+    let numbers = [number as u32];
+    writing::put_line(&mut *room, 88, &numbers)
+}
+
+// A refusal with its line.
 fn refused(s: State, number: u8, room: &mut [u8]) -> Answer
     requires { ⌜ 256 ≤ length (now room) ⌝ }
     ensures { λ r. ⌜ Called (refused s number) (now (room .entry)) r (now (room .exit)) ⌝ }
 {
-    let numbers = [number as u32];
-    let length = writing::put_line(&mut *room, 88, &numbers);
+    let length = put_refusal(number, &mut *room);
     Answer {
         number,
         length,
@@ -65,35 +74,69 @@ fn refused(s: State, number: u8, room: &mut [u8]) -> Answer
     }
 }
 
-// `B thread`, or a refusal.
+fn begin_number(reply: BeginReply) -> u8
+    ensures { λ r. ⌜ r ≡ beginNumber reply ⌝ }
+{
+    match reply {
+        BeginReply::Begun => 0,
+        BeginReply::Refused { number } => number,
+    }
+}
+
+// `B thread`, or the line of a refusal.
+fn put_begin(t: u32, reply: BeginReply, room: &mut [u8]) -> usize
+    requires { ⌜ 256 ≤ length (now room) ⌝ }
+    ensures { λ r. ⌜ Wrote (now (room .entry)) 0 (beginSheet t reply) r (now (room .exit)) ⌝ }
+{
+    match reply {
+        BeginReply::Begun => {
+            let numbers = [t];
+            writing::put_line(&mut *room, 66, &numbers)
+        }
+        BeginReply::Refused { number } => put_refusal(number, &mut *room),
+    }
+}
+
+// A begin and its line. The state is taken last: taken before the line is written it would be copied once more.
 fn begin_line(s: State, t: u32, o: u32, k: u32, room: &mut [u8]) -> Answer
     requires { ⌜ 256 ≤ length (now room) ⌝ }
     ensures { λ r. ⌜ Called (beginLine t (beginIn s t o k .state) (beginIn s t o k .reply)) (now (room .entry)) r (now (room .exit)) ⌝ }
 {
     let begin = beginning::begin_in(s, t, o, k);
     let reply = begin.reply;
+    let length = put_begin(t, reply, &mut *room);
+    let number = begin_number(reply);
     let u = begin.state;
-    match reply {
-        BeginReply::Begun => {
-            let numbers = [t];
-            wrote(u, 66, &numbers, &mut *room)
-        }
-        BeginReply::Refused { number } => refused(u, number, &mut *room),
+    Answer {
+        number,
+        length,
+        state: u,
     }
 }
 
-// `S thread taken phase`, `D thread taken answer commit`, or a refusal.
-fn steps_line(s: State, t: u32, n: u32, room: &mut [u8]) -> Answer
-    requires { ⌜ 256 ≤ length (now room) ⌝ }
-    ensures { λ r. ⌜ Called (runLine t (runIn s t n .state) (runIn s t n .reply)) (now (room .entry)) r (now (room .exit)) ⌝ }
+fn run_number(reply: RunReply) -> u8
+    ensures { λ r. ⌜ r ≡ runNumber reply ⌝ }
 {
-    let run = machine::run::run_in(s, t, n);
-    let reply = run.reply;
-    let u = run.state;
+    match reply {
+        RunReply::Stops { taken: _, phase: _ } => 0,
+        RunReply::Ends {
+            taken: _,
+            answer: _,
+            commit: _,
+        } => 0,
+        RunReply::Refused { number } => number,
+    }
+}
+
+// `S thread taken phase`, `D thread taken answer commit`, or the line of a refusal.
+fn put_run(t: u32, reply: RunReply, room: &mut [u8]) -> usize
+    requires { ⌜ 256 ≤ length (now room) ⌝ }
+    ensures { λ r. ⌜ Wrote (now (room .entry)) 0 (runSheet t reply) r (now (room .exit)) ⌝ }
+{
     match reply {
         RunReply::Stops { taken, phase } => {
             let numbers = [t, taken, phase as u32];
-            wrote(u, 83, &numbers, &mut *room)
+            writing::put_line(&mut *room, 83, &numbers)
         }
         RunReply::Ends {
             taken,
@@ -101,9 +144,26 @@ fn steps_line(s: State, t: u32, n: u32, room: &mut [u8]) -> Answer
             commit,
         } => {
             let numbers = [t, taken, answer as u32, commit];
-            wrote(u, 68, &numbers, &mut *room)
+            writing::put_line(&mut *room, 68, &numbers)
         }
-        RunReply::Refused { number } => refused(u, number, &mut *room),
+        RunReply::Refused { number } => put_refusal(number, &mut *room),
+    }
+}
+
+// Counted steps and their line. The state is taken last here too.
+fn steps_line(s: State, t: u32, n: u32, room: &mut [u8]) -> Answer
+    requires { ⌜ 256 ≤ length (now room) ⌝ }
+    ensures { λ r. ⌜ Called (runLine t (runIn s t n .state) (runIn s t n .reply)) (now (room .entry)) r (now (room .exit)) ⌝ }
+{
+    let run = machine::run::run_in(s, t, n);
+    let reply = run.reply;
+    let length = put_run(t, reply, &mut *room);
+    let number = run_number(reply);
+    let u = run.state;
+    Answer {
+        number,
+        length,
+        state: u,
     }
 }
 

@@ -2,6 +2,7 @@
 use borrow.Author.Needs.{needs}
 use borrow.Author.Tests.{eq-eqb, le-leb, le-ltb, lt-leb, lt-ltb, ne-eqb}
 use Rattle.rules.specs.State.{threadAt}
+use Rattle.rules.specs.Step.{begun}
 use Rattle.beginning.proofs.begin_in.Statement.{statement}
 use Rattle.beginning.proofs.begin_in.Tie as tie
 
@@ -46,18 +47,27 @@ returns-5 : tie.Need-returns-5
 unfolding threadAt
 returns-5 c = simp (le-leb _ _ (c .before .if5 .taken), eq-eqb _ _ (c .before .before .if4 .left), le-ltb _ _ (c .before .before .before .before .before .if3 .left), le-ltb _ _ (c .before .before .before .before .before .before .if2 .left), le-ltb _ _ (c .before .before .before .before .before .before .before .if1 .left), c .refused-begin5 .ensures)
 
-cast-begun : tie.Need-cast-begun
-cast-begun c = search needs
+cast-set-operation : tie.Need-cast-set-operation
+cast-set-operation c = search needs
 
-cast-begun-2 : tie.Need-cast-begun-2
-cast-begun-2 c = search needs
+cast-set-operation-2 : tie.Need-cast-set-operation-2
+cast-set-operation-2 c = search needs
 
-begun-requires : tie.Need-begun-requires
-begun-requires c κs = search needs
+set-operation-requires : tie.Need-set-operation-requires
+set-operation-requires c κs = search needs
+
+mul-begins : tie.Need-mul-begins
+mul-begins c = search needs
+
+element-set-from-begins : tie.Need-element-set-from-begins
+element-set-from-begins c = search needs
+
+add-u : tie.Need-add-u
+add-u c = search needs
 
 returns-6 : tie.Need-returns-6
-unfolding threadAt
-returns-6 c = simp (lt-leb _ _ (c .before .if5 .left), eq-eqb _ _ (c .before .before .if4 .left), le-ltb _ _ (c .before .before .before .before .before .if3 .left), le-ltb _ _ (c .before .before .before .before .before .before .if2 .left), le-ltb _ _ (c .before .before .before .before .before .before .before .if1 .left), c .begun .ensures)
+unfolding begun threadAt
+returns-6 c = simp (lt-leb _ _ (c .before .if5 .left), eq-eqb _ _ (c .before .before .if4 .left), le-ltb _ _ (c .before .before .before .before .before .if3 .left), le-ltb _ _ (c .before .before .before .before .before .before .if2 .left), le-ltb _ _ (c .before .before .before .before .before .before .before .if1 .left), c .set-operation .ensures)
 
 pub begin-in-spec : {M : Type 1} → statement M
 begin-in-spec =
@@ -75,7 +85,10 @@ begin-in-spec =
     returns-4
     refused-begin-requires-5
     returns-5
-    cast-begun
-    cast-begun-2
-    begun-requires
+    cast-set-operation
+    cast-set-operation-2
+    set-operation-requires
+    mul-begins
+    element-set-from-begins
+    add-u
     returns-6)

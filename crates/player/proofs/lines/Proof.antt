@@ -10,6 +10,7 @@ use Rattle.text.specs.Text.{newline}
 use Rattle.text.specs.Reading.{until-le, rest-part}
 use borrow.Author.Needs.{needs}
 use Rattle.rules.specs.Range.{inRange}
+use Rattle.sheet.specs.Inner.{line-is-inner}
 use Rattle.player.specs.Turns.{Out, standing, Turned, turn}
 use Rattle.player.specs.Ahead.{Ahead, back, turned-stage, ahead-none, ahead-line, line-end, line-inner, line-within}
 use Rattle.player.proofs.lines.Statement.{statement}
@@ -41,26 +42,28 @@ part-rest-end c = search needs
 until-requires : tie.Need-until-requires Inv-loop μ-loop
 until-requires c κs = search needs
 
-slice-aggregate-line : tie.Need-slice-aggregate-line Inv-loop μ-loop
-slice-aggregate-line c = sym (length-take-le _ _ (omega (arith, c .before .until .ensures, until-le newline (back (c .before .before .before .before .before .loop .at) (c .before .before .before .before .before .before .before .before .before .before .args .file .now)))))
+slice-aggregate-line-in : tie.Need-slice-aggregate-line-in Inv-loop μ-loop
+slice-aggregate-line-in c = sym (length-take-le _ _ (omega (arith, c .before .until .ensures, until-le newline (back (c .before .before .before .before .before .loop .at) (c .before .before .before .before .before .before .before .before .before .before .args .file .now)))))
 
-sub-line : tie.Need-sub-line Inv-loop μ-loop
-sub-line c = search needs
+sub-line-in : tie.Need-sub-line-in Inv-loop μ-loop
+sub-line-in c = search needs
 
-part-line-start : tie.Need-part-line-start Inv-loop μ-loop
-part-line-start c = search needs
+part-line-in-start : tie.Need-part-line-in-start Inv-loop μ-loop
+part-line-in-start c = search needs
 
-part-line-end : tie.Need-part-line-end Inv-loop μ-loop
-part-line-end c = search needs
+part-line-in-end : tie.Need-part-line-in-end Inv-loop μ-loop
+part-line-in-end c = search needs
 
-line-requires : tie.Need-line-requires Inv-loop μ-loop
-line-requires c κs = search needs
+line-in-requires : tie.Need-line-in-requires Inv-loop μ-loop
+line-in-requires c κs = search needs
 
 last-refused-requires : tie.Need-last-refused-requires Inv-loop μ-loop
 last-refused-requires c κs = search needs
 
 add-used : tie.Need-add-used Inv-loop μ-loop
-add-used c = record { fits = omega (arith, line-within (c .before .before .before .before .before .before .before .before .before .before .before .before .loop .used) (c .before .before .before .before .before .before .before .before .before .before .before .before .loop .room) (c .before .before .before .before .before .before .before .before .before .before .before .before .loop .s) _ (c .before .before .before .before .before .line .ensures) (c .before .before .before .before .before .before .before .before .before .before .before .before .loop .inv .1), c .before .before .before .before .before .before .before .before .before .before .before .before .loop .inv .0, c .before .before .before .before .before .before .before .before .before .before .before .before .before .before .before .before .before .good .1 .1 .0 .1) }
+add-used c =
+    let d = rw (line-is-inner (c .before .before .before .before .before .before .before .before .before .before .before .before .loop .s) (c .before .before .before .before .before .before .before .before .before .before .before .before .loop .inv .2)) at (c .before .before .before .before .before .line-in .ensures) in
+    record { fits = omega (arith, line-within (c .before .before .before .before .before .before .before .before .before .before .before .before .loop .used) (c .before .before .before .before .before .before .before .before .before .before .before .before .loop .room) (c .before .before .before .before .before .before .before .before .before .before .before .before .loop .s) _ d (c .before .before .before .before .before .before .before .before .before .before .before .before .loop .inv .1), c .before .before .before .before .before .before .before .before .before .before .before .before .loop .inv .0, c .before .before .before .before .before .before .before .before .before .before .before .before .before .before .before .before .before .good .1 .1 .0 .1) }
 
 add-at : tie.Need-add-at Inv-loop μ-loop
 add-at c =
@@ -82,10 +85,11 @@ loop-again c =
     let h = c .before .before .before .before .before .before .before .before .before .before .before .another .ensures .0 (c .before .before .before .before .before .before .before .before .before .before .if1 .taken) in
     let e = line-end (c .before .before .before .before .before .before .before .before .before .before .before .before .loop .at) (c .before .before .before .before .before .before .before .before .until .result) (c .before .before .before .before .before .before .before .before .before .before .before .before .before .before .before .before .before .args .file .now) (h .0) (c .before .before .before .before .before .before .before .before .until .ensures) in
     let inv = c .before .before .before .before .before .before .before .before .before .before .before .before .loop .inv in
-    let q = rw (rest-part (c .before .before .before .before .before .before .before .before .before .before .before .before .loop .at) (c .before .before .before .before .before .before .before .before .before .before .before .before .before .before .before .before .before .args .file .now), e .0) at (c .before .before .before .before .before .line .ensures) in (
+    let d = rw (line-is-inner (c .before .before .before .before .before .before .before .before .before .before .before .before .loop .s) (c .before .before .before .before .before .before .before .before .before .before .before .before .loop .inv .2)) at (c .before .before .before .before .before .line-in .ensures) in
+    let q = rw (rest-part (c .before .before .before .before .before .before .before .before .before .before .before .before .loop .at) (c .before .before .before .before .before .before .before .before .before .before .before .before .before .before .before .before .before .args .file .now), e .0) at d in (
       search needs,
-      omega (arith, line-within (c .before .before .before .before .before .before .before .before .before .before .before .before .loop .used) (c .before .before .before .before .before .before .before .before .before .before .before .before .loop .room) (c .before .before .before .before .before .before .before .before .before .before .before .before .loop .s) _ (c .before .before .before .before .before .line .ensures) (c .before .before .before .before .before .before .before .before .before .before .before .before .loop .inv .1)),
-      line-inner _ _ _ (inv .2) (c .before .before .before .before .before .line .ensures),
+      omega (arith, line-within (c .before .before .before .before .before .before .before .before .before .before .before .before .loop .used) (c .before .before .before .before .before .before .before .before .before .before .before .before .loop .room) (c .before .before .before .before .before .before .before .before .before .before .before .before .loop .s) _ d (c .before .before .before .before .before .before .before .before .before .before .before .before .loop .inv .1)),
+      line-inner _ _ _ (inv .2) d,
       λ o l t. rw (c .before .last-refused .ensures, e .0) (ahead-line (inv .3 o l t) (inv .2) (h .1) (h .0) q),
     )
 
@@ -113,11 +117,11 @@ lines-spec =
     part-rest-start
     part-rest-end
     until-requires
-    slice-aggregate-line
-    sub-line
-    part-line-start
-    part-line-end
-    line-requires
+    slice-aggregate-line-in
+    sub-line-in
+    part-line-in-start
+    part-line-in-end
+    line-in-requires
     last-refused-requires
     add-used
     add-at

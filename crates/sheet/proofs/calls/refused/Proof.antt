@@ -1,23 +1,17 @@
 -- `sheet::calls::refused` meets its contract.
-use Rattle.sheet.specs.Sheet.{refusal}
-use Rattle.sheet.specs.Called.{called-line}
+use Rattle.sheet.specs.Called.{called-wrote}
 use borrow.Author.Needs.{needs}
-use native.Mathlib.Omega.{arith}
 use Rattle.sheet.proofs.calls.refused.Statement.{statement}
 use Rattle.sheet.proofs.calls.refused.Tie as tie
 
-slice-aggregate-put-line : tie.Need-slice-aggregate-put-line
-slice-aggregate-put-line c = search needs
-
-put-line-requires : tie.Need-put-line-requires
-put-line-requires c κs = search needs
+put-refusal-requires : tie.Need-put-refusal-requires
+put-refusal-requires c κs = search needs
 
 same-length : tie.Need-same-length
 same-length c = search needs
 
 returns : tie.Need-returns
-unfolding refusal
-returns c = called-line _ _ _ _ (c .before .before .put-line .ensures) (omega (arith, c .before .before .before .before .before .before .pre))
+returns c = called-wrote _ _ _ (c .before .before .put-refusal .ensures)
 
 pub refused-spec : {M : Type 1} → statement M
-refused-spec = tie.close (tie.spec slice-aggregate-put-line put-line-requires same-length returns)
+refused-spec = tie.close (tie.spec put-refusal-requires same-length returns)
