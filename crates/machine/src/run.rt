@@ -8,6 +8,7 @@ use rules::state::State;
 ghost use mathlib.Core.Path.{_≡_};
 ghost use Prim.Native.Nat.{_<_, _≤_};
 ghost use Rattle.states.specs.Waits.{waits};
+ghost use Rattle.rules.specs.State.{threadAt};
 ghost use mathlib.Core.List.{[]};
 ghost use Rattle.rules.specs.Refusals.{first, refusalOf};
 ghost use Rattle.rules.specs.Step.{refusedRun, steps, runIn, runOrder, runOf};
@@ -35,14 +36,49 @@ fn waits(v: View) -> bool
         | (p == 17) & !places::is_free(g)
 }
 
-// Steps of thread `t` until `n` have been taken or the operation ends. A step that waits changes nothing, so all that are left wait too.
-// It reads and stores places itself: a function over the state would copy it.
-fn take_steps(s: State, t: u32, n: u32) -> Run
-    requires { ⌜ (t < 8) × (n ≤ 1000) ⌝ }
-    ensures { λ r. ⌜ r ≡ steps n s s t 0 ⌝ }
+// Where thread `t` stands; of a number that is no thread's, any place.
+fn place_of(t: u32) -> usize
+    ensures { λ r. ⌜ (r < 8) × (t < 8 → r ≡ t) ⌝ }
 {
-    let i = t as usize;
+    if 7 < t {
+        return 0;
+    }
+    t as usize
+}
+
+// What counted steps of a thread in this phase are refused with before the first step, or 0.
+fn refusal(t: u32, n: u32, phase: u8) -> u8
+    ensures goes { λ r. ⌜ (r ≡ 0 → (t < 8) × ((n ≤ 1000) × ((s : State) → threadAt s t .phase ≡ phase → runIn s t n ≡ steps n s s t 0))) ⌝ }
+    ensures refused { λ r. ⌜ ((r ≡ 0 → ⊥) → (s : State) → (t < 8 → threadAt s t .phase ≡ phase) → runIn s t n ≡ refusedRun s r) ⌝ }
+{
+    if 7 < t {
+        return 3;
+    }
+    if n == 0 {
+        return 10;
+    }
+    if 1000 < n {
+        return 10;
+    }
+    if phase == 0 {
+        return 6;
+    }
+    0
+}
+
+// Take `n` steps of thread `t`, or fewer if the operation ends, without the range test. A step that waits changes nothing, so all that are left
+// wait too. It reads and stores places itself: a function over the state would copy it.
+pub fn run_in(s: State, t: u32, n: u32) -> Run
+    ensures { λ r. ⌜ r ≡ runIn s t n ⌝ }
+{
+    let at = place_of(t);
     let mut u = s;
+    let stands = u.threads[at];
+    let number = refusal(t, n, stands.phase);
+    if number != 0 {
+        return refused_run(s, number);
+    }
+    let i = t as usize;
     let mut k: u32 = 0;
     let reply = loop {
         let th = u.threads[i];
@@ -118,27 +154,6 @@ fn take_steps(s: State, t: u32, n: u32) -> Run
         }
     };
     Run { reply, state: u }
-}
-
-// Take `n` steps of thread `t`, or fewer if the operation ends, without the range test.
-pub fn run_in(s: State, t: u32, n: u32) -> Run
-    ensures { λ r. ⌜ r ≡ runIn s t n ⌝ }
-{
-    if 7 < t {
-        return refused_run(s, 3);
-    }
-    if n == 0 {
-        return refused_run(s, 10);
-    }
-    if 1000 < n {
-        return refused_run(s, 10);
-    }
-    let i = t as usize;
-    let th = s.threads[i];
-    if th.phase == 0 {
-        return refused_run(s, 6);
-    }
-    take_steps(s, t, n)
 }
 
 // Take `n` steps of thread `t`, or fewer if the operation ends.
