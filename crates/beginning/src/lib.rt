@@ -1,4 +1,6 @@
 // The calls that begin: a fresh state, and an operation. Each leaves the state as it came where it refuses.
+#![tactic(auto)]
+
 ghost use Rattle.std.specs.Prelude.{◌≡◌};
 ghost use Rattle.rules.specs.State.{unmade};
 ghost use Rattle.rules.specs.Refusals.{refusal_of};

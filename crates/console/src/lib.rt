@@ -1,6 +1,8 @@
 // Reading and writing by descriptors, with a failure told from the end of the input.
 //
 // Which bytes C reads or writes is outside what a contract can say. These say how many, and that each function ends.
+#![tactic(auto)]
+
 ghost use Rattle.std.specs.Prelude.{◌≤◌, ◌<◌, false, ◌≡◌, length};
 ghost use Rattle.io.specs.Counts.{IsPrefixLen};
 

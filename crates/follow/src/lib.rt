@@ -1,4 +1,6 @@
 // The table of phases that may follow each phase: one constant, a mask for each phase.
+#![tactic(auto)]
+
 ghost use Rattle.std.specs.Prelude.{◌≡◌, ◌<◌};
 ghost use Rattle.rules.specs.Follow.{follow_mask, follows};
 

@@ -1,4 +1,6 @@
 // What a schedule line says. `Slip` is a line that is not of the forms.
+#![tactic(auto)]
+
 ghost use Rattle.std.specs.Prelude.{◌≡◌, [], length};
 ghost use Rattle.rules.specs.Refusals.{first, refusal_of};
 ghost use Rattle.text.specs.Text.{fields};

@@ -1,1 +1,2 @@
 // Laws of walks and trees: theorems only, no function.
+#![tactic(auto)]

@@ -1,4 +1,6 @@
 // Sets of the keys 0 to 63 in a u64.
+#![tactic(auto)]
+
 ghost use Rattle.std.specs.Prelude.{◌≡◌, ◌<◌, ◌^◌};
 ghost use Rattle.keys.specs.Keys.{has, with, without, union, below, from, size, split_key};
 

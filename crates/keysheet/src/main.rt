@@ -1,6 +1,8 @@
 // Plays the schedule on standard input and writes its key sheet to standard output. What fails is said on standard error.
 // The whole input is read before anything is written, but for what lies past the buffer: a schedule of more than
 // 60,000 bytes is too long whatever follows, so the rest is left unread.
+#![tactic(auto)]
+
 use libc::{STDIN_FILENO, STDOUT_FILENO};
 
 // A program has no exit status. One that is started with this argument says on this descriptor whether the whole sheet

@@ -1,4 +1,6 @@
 // The key list: a walk of the routes from the root, the left child first, down to each base.
+#![tactic(auto)]
+
 ghost use Rattle.std.specs.Prelude.{◌≡◌, ◌<◌, []};
 ghost use Rattle.listing.specs.Gathered.{Counted, Gathered};
 ghost use Rattle.keys.specs.Keys.{list_of};

@@ -1,1 +1,2 @@
 // The invariant of the machine: theorems only, no function.
+#![tactic(auto)]

@@ -1,4 +1,6 @@
 // What rows ask of a place, and what they do to one.
+#![tactic(auto)]
+
 ghost use Rattle.std.specs.Prelude.{◌≡◌};
 ghost use Rattle.rules.specs.State.{new_node};
 ghost use Rattle.rules.specs.Places.{is_route, keys_of, route_key, child_on, child_by, swap_body, takes_place, is_free, with_lock, release, zero, invalid, with_keys};

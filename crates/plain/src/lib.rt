@@ -1,1 +1,2 @@
 // The plain set: theorems only, no function.
+#![tactic(auto)]

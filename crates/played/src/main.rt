@@ -1,4 +1,6 @@
 // Plays the schedules of data/, which are named by two digits from 00 on, and writes their sheets one behind the other.
+#![tactic(auto)]
+
 ghost use Rattle.std.specs.Prelude.{◌≤◌, ◌<◌};
 
 // The schedule of number `k`; false where there is none, or what fails is told.

@@ -1,4 +1,6 @@
 // A whole schedule, played one sheet line a call, or several.
+#![tactic(auto)]
+
 ghost use Rattle.std.specs.Prelude.{true, false, cond, List, ◌≡◌, ℕ, suc, ◌+◌, ◌≤◌, ◌<◌, eqb, length};
 ghost use Rattle.rules.specs.Range.{in_range};
 ghost use Rattle.player.specs.Turns.{Out, opened, first_turn, line_turn, turn_of, Turned, turn};

@@ -1,4 +1,6 @@
 // The range test: every number inside document 01's limits.
+#![tactic(auto)]
+
 ghost use Rattle.std.specs.Prelude.{◌≡◌};
 ghost use Rattle.rules.specs.Range.{settings_in_range, body_in_range, place_in_range, register_in_range, registers_in_range, thread_in_range, places_in_range, threads_in_range, counts_in_range, in_range};
 

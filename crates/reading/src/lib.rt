@@ -1,4 +1,6 @@
 // Reading: fields, letters and numbers.
+#![tactic(auto)]
+
 ghost use Rattle.std.specs.Prelude.{◌≡◌, [], true, ◌≤◌, length, get_or};
 ghost use Rattle.text.specs.Text.{until, fields, is_letter, digits, value, is_number, number_of, number_values, number_says};
 

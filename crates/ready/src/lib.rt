@@ -1,4 +1,6 @@
 // Whether the step of a thread has what its row needs: a step that has not is stuck.
+#![tactic(auto)]
+
 ghost use Rattle.std.specs.Prelude.{◌≡◌, ◌+◌, ◌≤◌, ltb, leb, get_or};
 ghost use Rattle.keys.specs.Keys.{size};
 ghost use Rattle.rules.specs.State.{zero_statistics};

@@ -1,4 +1,6 @@
 // A thread with one register set.
+#![tactic(auto)]
+
 ghost use Rattle.std.specs.Prelude.{◌≡◌};
 ghost use Rattle.rules.specs.State.{fresh_thread};
 ghost use Rattle.rules.specs.Registers.{at_phase, set_prev, set_base, set_walk, set_neighbour, set_grandparent, set_made, set_side, set_operation, set_answer};

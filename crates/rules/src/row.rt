@@ -3,7 +3,7 @@ use crate::state::{Place, Settings, Thread};
 
 // What the step of thread `me` reads: its registers, the counts, and the places that its registers name.
 // `reached` is the place of the node that a walking row goes to. A register that is none has place 0, which no row looks at.
-#[derive(Drop)]
+#[derive(Clone, Copy)]
 pub struct View {
     pub me: u8,
     pub thread: Thread,
@@ -22,14 +22,14 @@ pub struct View {
 }
 
 // A place to be stored at a node number; 128 stores nothing.
-#[derive(Drop)]
+#[derive(Clone, Copy)]
 pub struct Store {
     pub at: u8,
     pub place: Place,
 }
 
 // What a step changes: the thread, the root, the counts and at most three places.
-#[derive(Drop)]
+#[derive(Clone, Copy)]
 pub struct Plan {
     pub thread: Thread,
     pub root: u8,

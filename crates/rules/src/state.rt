@@ -2,7 +2,7 @@
 // A lock holder is a thread number, or 8 for none.
 
 // The settings of a run. `low` is how far min lies below 0.
-#[derive(Drop)]
+#[derive(Clone, Copy)]
 pub struct Settings {
     pub succ: u32,
     pub fail: u32,
@@ -11,21 +11,21 @@ pub struct Settings {
 }
 
 // A lock: who holds it, and the statistics, held up by 2,000,000 so that they are never below 0.
-#[derive(Drop)]
+#[derive(Clone, Copy)]
 pub struct Lock {
     pub holder: u8,
     pub statistics: u32,
 }
 
 // What tells a base and a route apart.
-#[derive(Drop)]
+#[derive(Clone, Copy)]
 pub enum Body {
     Base { keys: u64 },
     Route { key: u8, left: u8, right: u8 },
 }
 
 // A place of the pool: a node that is made, or a free, invalid, empty base.
-#[derive(Drop)]
+#[derive(Clone, Copy)]
 pub struct Place {
     pub lock: Lock,
     pub valid: bool,
@@ -33,7 +33,7 @@ pub struct Place {
 }
 
 // A thread's registers. `side` is the kept far side of a join: true is right.
-#[derive(Drop)]
+#[derive(Clone, Copy)]
 pub struct Thread {
     pub phase: u8,
     pub operation: u8,
@@ -49,7 +49,7 @@ pub struct Thread {
     pub side: bool,
 }
 
-#[derive(Drop)]
+#[derive(Clone, Copy)]
 pub struct State {
     pub root: u8,
     pub made: u8,

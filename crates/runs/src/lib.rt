@@ -1,1 +1,2 @@
 // Runs and what demand 3 says of them: definitions only, no function.
+#![tactic(auto)]

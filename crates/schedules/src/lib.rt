@@ -1,1 +1,2 @@
 // Schedules as runs: theorems only, no function.
+#![tactic(auto)]

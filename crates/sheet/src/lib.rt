@@ -1,2 +1,4 @@
 // Schedule lines in, sheet lines out.
+#![tactic(auto)]
+
 pub mod calls;

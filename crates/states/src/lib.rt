@@ -1,1 +1,2 @@
 // Theorems about the states of the machine: they are in specs/, and there is no function.
+#![tactic(auto)]

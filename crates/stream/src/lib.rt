@@ -1,4 +1,6 @@
 // Plays a schedule and writes its key sheet to standard output.
+#![tactic(auto)]
+
 use libc::STDOUT_FILENO;
 
 // Whether all of these bytes were written.

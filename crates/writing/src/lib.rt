@@ -1,4 +1,6 @@
 // Writing: numbers, keys and sheet lines.
+#![tactic(auto)]
+
 ghost use Rattle.std.specs.Prelude.{[], ◌∷◌, ◌+◌, ◌*◌, ◌≤◌, ◌<◌, length};
 ghost use Rattle.keys.specs.Keys.{list_of};
 ghost use Rattle.text.specs.Text.{tab, decimal_of, tabbed, sheet_line, commas, key_text, keys_text, keys_line, Wrote, fitted};
