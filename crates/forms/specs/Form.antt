@@ -1,8 +1,7 @@
 -- "Schedule and key sheet": the forms of the schedule's lines.
-use Rattle.std.specs.Prelude.{Bool, true, false, cond, not, ◌&&◌, ◌||◌, List, [], ◌∷◌, ◌≡◌, refl, ℕ, eqb, length, get_or, drop}
-use Rattle.std.proofs.Common.{ap, ◌∙◌, arith}
+use Rattle.std.specs.Prelude.{Bool, true, cond, not, ◌&&◌, ◌||◌, List, [], ◌∷◌, ℕ, eqb, length, get_or, drop}
 use Rattle.rules.specs.Range.{settings_in_range}
-use Rattle.rules.specs.Refusals.{Refusal, ◌if◌, first, refusal_of}
+use Rattle.rules.specs.Refusals.{Refusal, ◌if◌, first}
 use Rattle.rules.specs.declared.state.Settings.{Settings}
 use Rattle.text.specs.Text.{minus, fields, is_letter, is_number, value, value_if}
 use Rattle.text.specs.declared.Number.{Number}
@@ -127,53 +126,3 @@ abbrev pub line_says : List ℕ → List ℕ
 line_says l =
     cond (is_begin (fields l)) (value (field (fields l) 1) ∷ operation_of (field (fields l) 2) ∷ value (field (fields l) 3) ∷ [])
     (value (field (fields l) 1) ∷ value (field (fields l) 2) ∷ [])
-
--- the settings of an accepted line are in range
-pub first_in_range : (l : List ℕ) (c : Settings) → first_form l ≡ First.TheVariants.Settings c → settings_in_range c ≡ true
-unfolding first_form ranged
-first_in_range l c e = go (settings_form (fields l)) e
-  where
-    go : (f : First.First) → ranged f ≡ First.TheVariants.Settings c → settings_in_range c ≡ true
-    go First.TheVariants.Slip e = let z : ◌≡◌ {A = ℕ} 0 1 = cc in absurd (omega arith)
-    go (First.TheVariants.Settings d) e = at (settings_in_range d) refl e
-      where
-        at : (t : Bool) → settings_in_range d ≡ t
-            → cond t (First.TheVariants.Settings d) First.TheVariants.Slip ≡ First.TheVariants.Settings c → settings_in_range c ≡ true
-        at true h k = let s : d ≡ c = cc in rw s at h
-        at false h k = let z : ◌≡◌ {A = ℕ} 0 1 = cc in absurd (omega arith)
-
--- with the answer on a first line, its number by the order and its values by the line
-pub first_says_lem : (l : List ℕ) (r : First.First) → r ≡ first_form l
-    → (r ≡ first_form l) × ((first_number r ≡ refusal_of (first_order l)) × (first_values r ≡ first (first_order l) (λ n. []) (first_says l)))
-unfolding first_form ranged settings_form settings_of
-first_says_lem l r e = let b = by (is_first (fields l)) (settings_of (fields l)) in (e, (ap first_number e ∙ b.0, ap first_values e ∙ b.1))
-  where
-    at : (c : Settings) (t : Bool)
-        → (first_number (cond t (First.TheVariants.Settings c) First.TheVariants.Slip) ≡ cond (not t) 2 0)
-        × (first_values (cond t (First.TheVariants.Settings c) First.TheVariants.Slip) ≡ cond (not t) [] (c.succ ∷ c.fail ∷ c.low ∷ c.max ∷ []))
-    at c true = (refl, refl)
-    at c false = (refl, refl)
-
-    by : (t : Bool) (c : Settings)
-        → (first_number (ranged (cond t (First.TheVariants.Settings c) First.TheVariants.Slip)) ≡ cond (not t) 2 (cond (not (settings_in_range c)) 2 0))
-        × (first_values (ranged (cond t (First.TheVariants.Settings c) First.TheVariants.Slip))
-        ≡ cond (not t) [] (cond (not (settings_in_range c)) [] (c.succ ∷ c.fail ∷ c.low ∷ c.max ∷ [])))
-    by true c = at c (settings_in_range c)
-    by false c = (refl, refl)
-
--- with the answer on another line, its number by the order and its values by the line
-pub line_says_lem : (l : List ℕ) (r : Line.Line) → r ≡ line_form l
-    → (r ≡ line_form l) × ((line_number r ≡ refusal_of (line_order l)) × (line_values r ≡ first (line_order l) (λ n. []) (line_says l)))
-unfolding line_form
-line_says_lem l r e =
-    let v : ℕ → ℕ = λ i. value (field (fields l) i) in
-    let b = by (is_begin (fields l)) (is_steps (fields l)) (v 1) (operation_of (field (fields l) 2)) (v 3) (v 1) (v 2) in
-    (e, (ap line_number e ∙ b.0, ap line_values e ∙ b.1))
-  where
-    by : (a b : Bool) (t o k s n : ℕ)
-        → (line_number (cond a (Line.TheVariants.Begin t o k) (cond b (Line.TheVariants.Steps s n) Line.TheVariants.Slip)) ≡ cond (not (a || b)) 1 0)
-        × (line_values (cond a (Line.TheVariants.Begin t o k) (cond b (Line.TheVariants.Steps s n) Line.TheVariants.Slip))
-        ≡ cond (not (a || b)) [] (cond a (t ∷ o ∷ k ∷ []) (s ∷ n ∷ [])))
-    by true b t o k s n = (refl, refl)
-    by false true t o k s n = (refl, refl)
-    by false false t o k s n = (refl, refl)

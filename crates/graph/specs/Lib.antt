@@ -3,8 +3,5 @@ pub mod Walk
 pub mod Count
 pub mod Tree
 pub mod Slot
-pub mod Graft
 pub mod Graph
-pub mod Hang
-pub mod Splice
 pub mod Track

@@ -1,4 +1,1 @@
-pub mod Digits
 pub mod Keys
-pub mod Laws
-pub mod Sizes

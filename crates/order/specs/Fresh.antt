@@ -8,7 +8,7 @@ use Rattle.std.proofs.Math.Dec.{ltb}
 use Rattle.std.proofs.Math.ListN.{get_or-replicate, get_or-eq_default}
 use borrow.Author.Tests.{ltb-true, ltb-false, lt-ltb, le-ltb, ne_eqb}
 use Rattle.keys.specs.Keys.{has}
-use Rattle.keys.specs.Laws.{has-none}
+use Rattle.keys.proofs.Laws.{has-none}
 use Rattle.rules.specs.State.{zero_place, zero_thread, unmade, fresh_thread, fresh, thread_at}
 use Rattle.rules.specs.Places.{keys_of_body}
 use Rattle.rules.specs.declared.state.Settings.{Settings}

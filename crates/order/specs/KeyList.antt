@@ -7,7 +7,7 @@ use Prim.Native.Nat.{ℕ, zero, suc, ◌+◌, ◌%◌, ◌≤◌, ◌<◌}
 use native.Mathlib.Omega.{arith}
 use Rattle.std.proofs.Math.ListN.{length-set, get_or-replicate, get_or-eq_default}
 use Rattle.keys.specs.Keys.{has}
-use Rattle.keys.specs.Laws.{has-union, has-none}
+use Rattle.keys.proofs.Laws.{has-union, has-none}
 use Rattle.rules.specs.State.{zero_place, thread_at}
 use Rattle.rules.specs.Places.{keys_of_body}
 use Rattle.rules.specs.List.{unmet, meets, lists, gather, reached}

@@ -30,10 +30,6 @@ pub mod Tally
 pub mod Fresh
 pub mod Invariant
 pub mod Stuck
-pub mod Search
 pub mod KeyList
-pub mod Reached
 pub mod Refusal
 pub mod WalkRows
-pub mod Bounded
-pub mod Stays

@@ -6,7 +6,7 @@ use Rattle.std.proofs.Common.{sym, ◌∙◌, arith}
 use Rattle.std.proofs.Math.Dec.{ltb, eqb}
 use borrow.Author.Tests.{eqb-false, ltb-false, ne_eqb}
 use Rattle.keys.specs.Keys.{has, with, without, size}
-use Rattle.keys.specs.Laws.{has-with, has-without}
+use Rattle.keys.proofs.Laws.{has-with, has-without}
 use Rattle.rules.specs.State.{none, place_at, thread_at}
 use Rattle.rules.specs.Registers.{at_phase, set_answer}
 use Rattle.rules.specs.Places.{keys_of, keys_after, with_keys, release, zero}

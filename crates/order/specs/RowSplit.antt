@@ -4,7 +4,7 @@ use Rattle.std.proofs.Common.{true≢false, sym, ◌∙◌, arith}
 use Rattle.std.proofs.Math.Path.{refl, ap}
 use Rattle.std.proofs.Math.ListN.{get_or}
 use Rattle.keys.specs.Keys.{has}
-use Rattle.keys.specs.Laws.{has-below, has-from}
+use Rattle.keys.proofs.Laws.{has-below, has-from}
 use Rattle.rules.specs.State.{zero_place, place_at, thread_at}
 use Rattle.rules.specs.Registers.{at_phase}
 use Rattle.rules.specs.Rows.{hangs, row7}
@@ -17,7 +17,7 @@ use Rattle.graph.specs.Walk.{kid, by, Walk, here, step}
 use Rattle.graph.specs.Tree.{Tree, tip, fork, count, leaf, branch, kid_in, Stands, top, in_l, in_r, stands}
 use Rattle.graph.specs.Slot.{slot_route}
 use Rattle.graph.specs.Graph.{summit}
-use Rattle.graph.specs.Hang.{Hangs, hang}
+use Rattle.graph.proofs.Hang.{Hangs, hang}
 use Rattle.order.specs.World.{World, graph, cell, hold, keys, in_tree, world_of, Sound}
 use Rattle.order.specs.Stages.{Splitting}
 use Rattle.order.specs.Bridge.{thread_me, thread_other}

@@ -5,7 +5,7 @@ use Rattle.std.proofs.Math.Path.{refl}
 use Rattle.std.proofs.Common.{sym, ap, ◌∙◌, arith, ltb-true, ltb-false}
 use Rattle.std.proofs.Math.Dec.{ltb}
 use Rattle.keys.specs.Keys.{below, from, size, split_key}
-use Rattle.keys.specs.Sizes.{split-has, split_small}
+use Rattle.keys.proofs.Sizes.{split-has, split_small}
 use Rattle.rules.specs.State.{new_node, place_at, thread_at}
 use Rattle.rules.specs.Places.{keys_of}
 use Rattle.rules.specs.Rows.{at, no_split, split, row6}

@@ -20,7 +20,7 @@ use Rattle.graph.specs.Walk.{Cell, walks_meet}
 use Rattle.graph.specs.Tree.{count}
 use Rattle.graph.specs.Graph.{hung}
 use Rattle.runs.specs.PlainSet.{PlainSet, insert, delete}
-use Rattle.runs.specs.Tied.{keys_tied}
+use Rattle.runs.proofs.Tied.{keys_tied}
 use Rattle.runs.specs.Holders.{late}
 use Rattle.order.specs.World.{cells_of, hold, valid, world_of}
 use Rattle.order.specs.Stages.{Locked, Meets}

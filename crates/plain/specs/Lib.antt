@@ -9,10 +9,4 @@ pub mod Listed
 pub mod Counted
 pub mod Runs
 pub mod Registers
-pub mod Log
-pub mod Goes
-pub mod Events
-pub mod Quiet
-pub mod CountedSteps
-pub mod Demand
 pub mod Longest

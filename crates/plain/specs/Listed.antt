@@ -3,7 +3,7 @@ use Rattle.std.specs.Prelude.{Bool, true, false, ◌||◌, ◌≡◌, refl, ℕ,
 use Rattle.std.proofs.Common.{true≢false, sym, ap, ◌∙◌, arith}
 use Rattle.std.proofs.Math.ListN.{get_or-eq_default}
 use Rattle.keys.specs.Keys.{has}
-use Rattle.keys.specs.Laws.{has-none}
+use Rattle.keys.proofs.Laws.{has-none}
 use Rattle.rules.specs.State.{zero_place}
 use Rattle.rules.specs.Places.{keys_of}
 use Rattle.rules.specs.List.{reached}

@@ -3,7 +3,7 @@ use Rattle.std.specs.Prelude.{Bool, true, false, cond, ◌&&◌, ◌≡◌, refl
 use Rattle.std.proofs.Common.{true≢false, sym, ap, ◌∙◌, arith, get_or-set_same, get_or-set_other, eq-eqb, ne_eqb}
 use Prim.Native.Nat.{ℕ, ◌≤◌}
 use Rattle.keys.specs.Keys.{has}
-use Rattle.keys.specs.Laws.{has-none}
+use Rattle.keys.proofs.Laws.{has-none}
 use Rattle.rules.specs.State.{zero_thread, fresh, place_at, thread_at}
 use Rattle.rules.specs.Registers.{set_operation}
 use Rattle.rules.specs.Places.{keys_of_body, keys_after}

@@ -2,7 +2,7 @@
 use Rattle.std.specs.Prelude.{Bool, true, false, not, ◌&&◌, ◌≡◌, refl, ℕ, ◌≤◌, ltb, length}
 use Rattle.std.proofs.Common.{true≢false, sym, ap, ◌∙◌, arith}
 use Rattle.keys.specs.Keys.{has}
-use Rattle.keys.specs.Laws.{has-below, has-from}
+use Rattle.keys.proofs.Laws.{has-below, has-from}
 use Rattle.rules.specs.State.{thread_at}
 use Rattle.rules.specs.Rows.{plan_of}
 use Rattle.rules.specs.Step.{view_of, after}

@@ -2,7 +2,7 @@
 use Rattle.std.specs.Prelude.{Bool, true, false, not, ◌||◌, ◌≡◌, refl, ℕ, ◌≤◌, length}
 use Rattle.std.proofs.Common.{true≢false, sym, ap, ◌∙◌, arith}
 use Rattle.keys.specs.Keys.{has}
-use Rattle.keys.specs.Laws.{has-union}
+use Rattle.keys.proofs.Laws.{has-union}
 use Rattle.rules.specs.State.{thread_at}
 use Rattle.rules.specs.Step.{after}
 use Rattle.rules.specs.declared.state.State.{State}

@@ -8,12 +8,12 @@ use Rattle.std.proofs.Math.Seq.{length-sets}
 use Rattle.rules.specs.Range.{in_range}
 use Rattle.rules.specs.declared.state.State.{State}
 use Rattle.text.specs.Text.{newline, until, Wrote}
-use Rattle.text.specs.Reading.{until-le, rest_part}
-use Rattle.text.specs.Writing.{wrote-both, sets_behind}
+use Rattle.text.proofs.Reading.{until-le, rest_part}
+use Rattle.text.proofs.Writing.{wrote-both, sets_behind}
 use Rattle.forms.specs.Form.{line_form}
 use Rattle.sheet.specs.Sheet.{Played, silent, narrow, play_form, line_of, end_of}
 use Rattle.sheet.specs.Called.{Called}
-use Rattle.sheet.specs.Lengths.{line_fits, end_fits}
+use Rattle.sheet.proofs.Lengths.{line_fits, end_fits}
 use Rattle.sheet.specs.declared.calls.Answer.{Answer}
 use Rattle.player.specs.Turns.{Out, standing, out, front, line_turn, turn_of, turn_fits, Turned, turn}
 use Rattle.player.specs.Several.{behind, goes_on, turns_of, several_of}

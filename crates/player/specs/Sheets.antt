@@ -16,9 +16,10 @@ use Rattle.rules.specs.Range.{in_range}
 use Rattle.rules.specs.declared.state.State.{State}
 use Rattle.states.specs.Kept.{begin_in_range, run_in_range, fresh_in_range}
 use Rattle.text.specs.Text.{newline, until, fields, is_letter, lines}
-use Rattle.text.specs.Reading.{lines_cut}
-use Rattle.forms.specs.Form.{is_first, settings_form, ranged, first_form, line_form, first_in_range}
-use Rattle.sheet.specs.States.{begin_state, run_state}
+use Rattle.text.proofs.Reading.{lines_cut}
+use Rattle.forms.specs.Form.{is_first, settings_form, ranged, first_form, line_form}
+use Rattle.forms.proofs.Form.{first_in_range}
+use Rattle.sheet.proofs.States.{begin_state, run_state}
 use Rattle.sheet.specs.Sheet.{narrow, refusal, first_played, first_of, play_form, play_lines, line_of, end_of, end_form, play_first, play_all, sheet_of}
 use Rattle.forms.specs.declared.First as First
 use Rattle.forms.specs.declared.Line as Line

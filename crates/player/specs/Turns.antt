@@ -6,10 +6,10 @@ use Rattle.rules.specs.State.{fresh}
 use Rattle.rules.specs.Step.{zero_settings}
 use Rattle.rules.specs.declared.state.State.{State}
 use Rattle.text.specs.Text.{newline, until}
-use Rattle.text.specs.Writing.{front_read}
+use Rattle.text.proofs.Writing.{front_read}
 use Rattle.sheet.specs.Sheet.{Played, narrow, refusal, first_of, line_of, end_of}
 use Rattle.sheet.specs.Called.{Called}
-use Rattle.sheet.specs.Lengths.{refusal_short, line_fits, end_fits, first_fits}
+use Rattle.sheet.proofs.Lengths.{refusal_short, line_fits, end_fits, first_fits}
 use Rattle.sheet.specs.declared.calls.Answer.{Answer}
 use Rattle.player.specs.declared.Player.{Player}
 use Rattle.player.specs.declared.Turn.{Turn}

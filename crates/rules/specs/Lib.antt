@@ -10,4 +10,3 @@ pub mod List
 pub mod Follow
 pub mod Answers
 pub mod Computes
-pub mod Trials

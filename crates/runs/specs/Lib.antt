@@ -1,14 +1,7 @@
 pub mod Calls
 pub mod Passes
 pub mod PlainSet
-pub mod Tied
 pub mod Log
 pub mod Events
 pub mod Holders
 pub mod Demand
-pub mod Instance
-pub mod Counted
-pub mod Counts
-pub mod Unfit
-pub mod Standing
-pub mod Walks

@@ -1,3 +1,0 @@
-pub mod Played
-pub mod Lines
-pub mod Files

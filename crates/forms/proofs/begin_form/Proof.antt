@@ -1,7 +1,7 @@
 -- `forms::begin_form` meets its contract.
 use mathlib.Core.Path.{sym, ◌∙◌}
 use borrow.Author.Tests.{not-true, not-false}
-use Rattle.text.specs.Reading.{value_if_lem, slip_if}
+use Rattle.text.proofs.Reading.{value_if_lem, slip_if}
 use Rattle.forms.specs.Form.{line_form, is_begin, is_steps}
 use borrow.Author.Rules.{rules}
 use Rattle.forms.proofs.begin_form.Statement.{statement}

@@ -2,7 +2,7 @@
 use mathlib.Core.Path.{sym, ◌∙◌}
 use borrow.Author.Tests.{eq-eqb, ne_eqb}
 use lib.ListN.{get_or-eq_default}
-use Rattle.text.specs.Reading.{value_if_lem, slip_if, value_made, slip_made, rest_part}
+use Rattle.text.proofs.Reading.{value_if_lem, slip_if, value_made, slip_made, rest_part}
 use Rattle.forms.specs.Form.{is_below}
 use borrow.Author.Rules.{rules}
 use native.Mathlib.Omega.{arith}

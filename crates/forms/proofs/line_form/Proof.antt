@@ -1,7 +1,8 @@
 -- `forms::line_form` meets its contract.
 use mathlib.Core.Path.{◌∙◌}
 use borrow.Author.Tests.{ne_eqb}
-use Rattle.forms.specs.Form.{line_form, is_begin, is_steps, line_says_lem}
+use Rattle.forms.specs.Form.{line_form, is_begin, is_steps}
+use Rattle.forms.proofs.Form.{line_says_lem}
 use borrow.Author.Rules.{rules}
 use Rattle.forms.proofs.line_form.Statement.{statement}
 use Rattle.forms.proofs.line_form.Tie as tie

@@ -1,7 +1,7 @@
 -- `forms::low_of` meets its contract.
 use mathlib.Core.Path.{sym, ◌∙◌}
 use borrow.Author.Tests.{eq-eqb, ne_eqb}
-use Rattle.text.specs.Reading.{value_if_lem, slip_if, value_made, slip_made}
+use Rattle.text.proofs.Reading.{value_if_lem, slip_if, value_made, slip_made}
 use Rattle.forms.specs.Form.{is_min, low_of}
 use borrow.Author.Rules.{rules}
 use Rattle.forms.proofs.low_of.Statement.{statement}

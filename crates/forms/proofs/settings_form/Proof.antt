@@ -1,7 +1,7 @@
 -- `forms::settings_form` meets its contract.
 use mathlib.Core.Path.{sym, ◌∙◌}
 use borrow.Author.Tests.{not-true, not-false}
-use Rattle.text.specs.Reading.{value_if_lem, slip_if}
+use Rattle.text.proofs.Reading.{value_if_lem, slip_if}
 use Rattle.forms.specs.Form.{settings_form, is_first, settings_of}
 use borrow.Author.Rules.{rules}
 use Rattle.forms.proofs.settings_form.Statement.{statement}

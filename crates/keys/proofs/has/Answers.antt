@@ -1,6 +1,6 @@
 -- `keys::has` meets its contract.
 use mathlib.Core.Path.{sym}
-use Rattle.keys.specs.Laws.{has_large}
+use Rattle.keys.proofs.Laws.{has_large}
 use Rattle.keys.proofs.has.Goals as goal
 
 pub returns-else-k-lt64 : goal.returns-else-k-lt64

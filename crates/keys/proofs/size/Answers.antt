@@ -2,7 +2,7 @@
 use mathlib.Core.Path.{sym}
 use native.Mathlib.Omega.{arith}
 use lib.Count.{ones-le}
-use Rattle.keys.specs.Sizes.{size-ones}
+use Rattle.keys.proofs.Sizes.{size-ones}
 use Rattle.keys.proofs.size.Goals as goal
 
 pub overflow_cast-result : goal.overflow_cast-result

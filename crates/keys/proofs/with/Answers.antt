@@ -1,8 +1,8 @@
 -- `keys::with` meets its contract.
 use mathlib.Core.Path.{sym, ◌∙◌}
 use native.Mathlib.Omega.{arith}
-use Rattle.keys.specs.Digits.{with_new}
-use Rattle.keys.specs.Laws.{with_old, with_large, with-lt}
+use Rattle.keys.proofs.Digits.{with_new}
+use Rattle.keys.proofs.Laws.{with_old, with_large, with-lt}
 use Rattle.keys.proofs.with.Goals as goal
 
 pub returns-then-has : goal.returns-then-has

@@ -1,7 +1,7 @@
 -- `keys::without` meets its contract.
 use mathlib.Core.Path.{sym, ◌∙◌}
-use Rattle.keys.specs.Digits.{key_le, without_key}
-use Rattle.keys.specs.Laws.{has_small, without-none}
+use Rattle.keys.proofs.Digits.{key_le, without_key}
+use Rattle.keys.proofs.Laws.{has_small, without-none}
 use Rattle.keys.proofs.without.Goals as goal
 
 pub place-requires : goal.place-requires

@@ -5,9 +5,9 @@ use native.Mathlib.Omega.{arith}
 use lib.Seq.{length-take-le}
 use borrow.Author.Tests.{lt-ltb, le-ltb, eq-eqb, ne_eqb}
 use Rattle.text.specs.Text.{newline}
-use Rattle.text.specs.Reading.{until-le}
+use Rattle.text.proofs.Reading.{until-le}
 use Rattle.sheet.specs.Sheet.{refusal}
-use Rattle.sheet.specs.Called.{called_line}
+use Rattle.sheet.proofs.Called.{called_line}
 use Rattle.sheet.specs.declared.calls.Answer.{Answer}
 use Rattle.player.specs.Turns.{first_turn, turned_called}
 use Rattle.player.proofs.first_turn.Statement.{statement}

@@ -7,7 +7,7 @@ use lib.ListN.{length, take, drop, length-drop}
 use lib.Seq.{length-take-le}
 use borrow.Author.Tests.{le-leb, lt-leb}
 use Rattle.text.specs.Text.{newline}
-use Rattle.text.specs.Reading.{until-le, rest_part}
+use Rattle.text.proofs.Reading.{until-le, rest_part}
 use Rattle.player.specs.Turns.{line_turn, turned_called}
 use Rattle.player.proofs.line_turn.Statement.{statement}
 use Rattle.player.proofs.line_turn.Tie as tie

@@ -7,10 +7,10 @@ use native.Mathlib.Omega.{arith}
 use lib.ListN.{length}
 use lib.Seq.{length-take-le}
 use Rattle.text.specs.Text.{newline}
-use Rattle.text.specs.Reading.{until-le, rest_part}
+use Rattle.text.proofs.Reading.{until-le, rest_part}
 use borrow.Author.Rules.{rules}
 use Rattle.rules.specs.Range.{in_range}
-use Rattle.sheet.specs.Inner.{line-is_inner}
+use Rattle.sheet.proofs.Inner.{line-is_inner}
 use Rattle.player.specs.Turns.{Out, standing, Turned, turn}
 use Rattle.player.specs.Ahead.{Ahead, back, turned_stage, ahead_none, ahead_line, line_end, line_inner, line_within}
 use Rattle.player.proofs.lines.Statement.{statement}

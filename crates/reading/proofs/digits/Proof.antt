@@ -5,7 +5,7 @@ use native.Mathlib.Numerals.{add-one}
 use borrow.Author.Tests.{le-leb, lt-leb}
 use lib.ListN.{length, drop, drop_of_length-le}
 use Rattle.text.specs.Text.{digits}
-use Rattle.text.specs.Reading.{digits-at}
+use Rattle.text.proofs.Reading.{digits-at}
 use borrow.Author.Rules.{rules}
 use Rattle.reading.proofs.digits.Statement.{statement}
 use Rattle.reading.proofs.digits.Tie as tie

@@ -5,7 +5,7 @@ use mathlib.Core.List.{[]}
 use lib.ListN.{length, get_or}
 use lib.Seq.{length-take-le, drop-length, take-nil}
 use Rattle.text.specs.Text.{fields, tab}
-use Rattle.text.specs.Reading.{until-le, field-first, field_later, field-none, rest_part}
+use Rattle.text.proofs.Reading.{until-le, field-first, field_later, field-none, rest_part}
 use borrow.Author.Rules.{rules}
 use native.Mathlib.Omega.{arith}
 use Rattle.reading.proofs.field.Statement.{statement}

@@ -6,7 +6,7 @@ use borrow.Author.Tests.{eq-eqb, ne_eqb}
 use mathlib.Core.Logic.{⊎_elim}
 use lib.ListN.{length, drop, drop_of_length-le}
 use Rattle.text.specs.Text.{fields}
-use Rattle.text.specs.Reading.{count_at}
+use Rattle.text.proofs.Reading.{count_at}
 use borrow.Author.Rules.{rules}
 use native.Mathlib.Omega.{arith}
 use Rattle.reading.proofs.field_count.Statement.{statement}

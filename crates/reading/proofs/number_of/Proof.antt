@@ -1,7 +1,7 @@
 -- `reading::number_of` meets its contract.
 use mathlib.Core.Path.{sym, ◌∙◌}
 use Rattle.text.specs.Text.{value_if}
-use Rattle.text.specs.Reading.{number_digits, number_says_lem}
+use Rattle.text.proofs.Reading.{number_digits, number_says_lem}
 use borrow.Author.Rules.{rules}
 use Rattle.reading.proofs.number_of.Statement.{statement}
 use Rattle.reading.proofs.number_of.Tie as tie

@@ -5,7 +5,7 @@ use native.Mathlib.Numerals.{add-one}
 use borrow.Author.Tests.{eq-eqb, ne_eqb}
 use lib.ListN.{length, drop, drop_of_length-le}
 use Rattle.text.specs.Text.{until}
-use Rattle.text.specs.Reading.{until-at}
+use Rattle.text.proofs.Reading.{until-at}
 use borrow.Author.Rules.{rules}
 use native.Mathlib.Omega.{arith}
 use Rattle.reading.proofs.until.Statement.{statement}

@@ -7,7 +7,7 @@ use mathlib.Core.Bool.{true}
 use lib.Dec.{lit<}
 use lib.ListN.{length, drop, drop_of_length-le}
 use Rattle.text.specs.Text.{digits, value, value_from}
-use Rattle.text.specs.Reading.{Digit, digit_at, value-at}
+use Rattle.text.proofs.Reading.{Digit, digit_at, value-at}
 use borrow.Author.Rules.{rules}
 use native.Mathlib.Omega.{arith}
 use Rattle.reading.proofs.value.Statement.{statement}

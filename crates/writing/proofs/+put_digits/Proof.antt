@@ -6,7 +6,7 @@ use borrow.Fn.Kinds.{In}
 use borrow.Fn.PlainCycle.{Measures, is, falls, and}
 use lib.ListN.{length-set}
 use Rattle.text.specs.Text.{decimal_of}
-use Rattle.text.specs.Writing.{wrote_none, wrote_byte, wrote-both, decimal-one, decimal_last}
+use Rattle.text.proofs.Writing.{wrote_none, wrote_byte, wrote-both, decimal-one, decimal_last}
 use Rattle.writing.proofs.put_digits.Reads as reads
 use Rattle.writing.proofs.put_digits.Kinds as kinds
 use Rattle.writing.proofs.+put_digits.Lts-put_digits as lts

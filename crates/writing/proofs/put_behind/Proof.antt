@@ -1,7 +1,7 @@
 -- `writing::put_behind` meets its contract.
 use mathlib.Core.Path.{◌∙◌}
 use lib.ListN.{length-set}
-use Rattle.text.specs.Writing.{wrote_byte, wrote-both}
+use Rattle.text.proofs.Writing.{wrote_byte, wrote-both}
 use borrow.Author.Rules.{rules}
 use native.Mathlib.Omega.{arith}
 use Rattle.writing.proofs.put_behind.Statement.{statement}

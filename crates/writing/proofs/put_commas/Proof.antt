@@ -6,7 +6,7 @@ use mathlib.Core.List.{List}
 use lib.ListN.{length}
 use Rattle.keys.specs.Keys.{rising, list_of}
 use Rattle.text.specs.Text.{commas, Wrote}
-use Rattle.text.specs.Writing.{wrote_none, wrote-both, commas-at}
+use Rattle.text.proofs.Writing.{wrote_none, wrote-both, commas-at}
 use borrow.Author.Rules.{rules}
 use native.Mathlib.Omega.{arith}
 use Rattle.writing.proofs.put_commas.Statement.{statement}

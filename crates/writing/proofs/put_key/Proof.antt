@@ -1,7 +1,7 @@
 -- `writing::put_key` meets its contract.
 use mathlib.Core.Path.{sym, ◌∙◌}
 use Rattle.text.specs.Text.{key_text}
-use Rattle.text.specs.Writing.{wrote_none, decimal_key}
+use Rattle.text.proofs.Writing.{wrote_none, decimal_key}
 use borrow.Author.Rules.{rules}
 use Rattle.writing.proofs.put_key.Statement.{statement}
 use Rattle.writing.proofs.put_key.Tie as tie

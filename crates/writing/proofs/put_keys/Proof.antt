@@ -1,6 +1,6 @@
 -- `writing::put_keys` meets its contract.
 use lib.ListN.{length-set}
-use Rattle.text.specs.Writing.{keys_some, keys_none}
+use Rattle.text.proofs.Writing.{keys_some, keys_none}
 use borrow.Author.Rules.{rules}
 use native.Mathlib.Omega.{arith}
 use Rattle.writing.proofs.put_keys.Statement.{statement}

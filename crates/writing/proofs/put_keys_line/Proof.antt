@@ -3,7 +3,7 @@ use mathlib.Core.List.{append_assoc, append-nil}
 use borrow.Author.Tests.{lt-ltb, le-ltb}
 use lib.ListN.{length-set}
 use Rattle.text.specs.Text.{decimal, tabbed, keys_line, fitted}
-use Rattle.text.specs.Writing.{wrote_none, wrote_byte, wrote-both}
+use Rattle.text.proofs.Writing.{wrote_none, wrote_byte, wrote-both}
 use borrow.Author.Rules.{rules}
 use native.Mathlib.Omega.{arith}
 use Rattle.writing.proofs.put_keys_line.Statement.{statement}

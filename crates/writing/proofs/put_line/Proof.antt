@@ -3,7 +3,7 @@ use mathlib.Core.Path.{◌∙◌}
 use borrow.Author.Tests.{lt-ltb, le-ltb}
 use lib.ListN.{length-set}
 use Rattle.text.specs.Text.{fitted, sheet_line}
-use Rattle.text.specs.Writing.{wrote_none, wrote_byte, wrote-both}
+use Rattle.text.proofs.Writing.{wrote_none, wrote_byte, wrote-both}
 use borrow.Author.Rules.{rules}
 use native.Mathlib.Omega.{arith}
 use Rattle.writing.proofs.put_line.Statement.{statement}

@@ -5,7 +5,7 @@ use native.Mathlib.Numerals.{add-one}
 use mathlib.Core.List.{List}
 use lib.ListN.{length, drop, drop_of_length-le}
 use Rattle.text.specs.Text.{decimal, tabbed, Wrote}
-use Rattle.text.specs.Writing.{wrote_none, wrote-both, tabbed-at}
+use Rattle.text.proofs.Writing.{wrote_none, wrote-both, tabbed-at}
 use borrow.Author.Rules.{rules}
 use native.Mathlib.Omega.{arith}
 use Rattle.writing.proofs.put_tabbed.Statement.{statement}

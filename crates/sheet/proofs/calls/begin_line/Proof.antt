@@ -1,6 +1,6 @@
 -- `sheet::calls::begin_line` meets its contract.
 use Rattle.sheet.specs.Sheet.{begin_line}
-use Rattle.sheet.specs.Called.{called_wrote}
+use Rattle.sheet.proofs.Called.{called_wrote}
 use borrow.Author.Rules.{rules}
 use Rattle.sheet.proofs.calls.begin_line.Statement.{statement}
 use Rattle.sheet.proofs.calls.begin_line.Tie as tie

@@ -1,7 +1,7 @@
 -- `sheet::calls::end_line` meets its contract.
 use borrow.Author.Tests.{lt-ltb, le-ltb}
 use Rattle.sheet.specs.Sheet.{end_of}
-use Rattle.sheet.specs.Called.{called_silent}
+use Rattle.sheet.proofs.Called.{called_silent}
 use borrow.Author.Rules.{rules}
 use Rattle.sheet.proofs.calls.end_line.Statement.{statement}
 use Rattle.sheet.proofs.calls.end_line.Tie as tie

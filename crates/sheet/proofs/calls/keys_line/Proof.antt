@@ -1,6 +1,6 @@
 -- `sheet::calls::keys_line` meets its contract.
 use Rattle.sheet.specs.Sheet.{end_form, end_text}
-use Rattle.sheet.specs.Called.{called_line}
+use Rattle.sheet.proofs.Called.{called_line}
 use borrow.Author.Rules.{rules}
 use native.Mathlib.Omega.{arith}
 use Rattle.sheet.proofs.calls.keys_line.Statement.{statement}

@@ -2,8 +2,8 @@
 use mathlib.Core.Path.{sym, ◌∙◌}
 use borrow.Author.Tests.{lt-ltb, le-ltb, not-false}
 use Rattle.sheet.specs.Sheet.{line_of}
-use Rattle.sheet.specs.Called.{called_silent}
-use Rattle.sheet.specs.Inner.{line-is_inner}
+use Rattle.sheet.proofs.Called.{called_silent}
+use Rattle.sheet.proofs.Inner.{line-is_inner}
 use borrow.Author.Rules.{rules}
 use Rattle.sheet.proofs.calls.line.Statement.{statement}
 use Rattle.sheet.proofs.calls.line.Tie as tie

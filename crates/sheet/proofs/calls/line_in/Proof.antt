@@ -1,7 +1,7 @@
 -- `sheet::calls::line_in` meets its contract.
 use borrow.Author.Tests.{lt-ltb, le-ltb}
 use Rattle.sheet.specs.Sheet.{play_in, line_in}
-use Rattle.sheet.specs.Called.{called_silent}
+use Rattle.sheet.proofs.Called.{called_silent}
 use borrow.Author.Rules.{rules}
 use Rattle.sheet.proofs.calls.line_in.Statement.{statement}
 use Rattle.sheet.proofs.calls.line_in.Tie as tie

@@ -1,6 +1,6 @@
 -- `sheet::calls::put_refusal` meets its contract.
 use Rattle.sheet.specs.Sheet.{refusal}
-use Rattle.sheet.specs.Called.{fits_wrote}
+use Rattle.sheet.proofs.Called.{fits_wrote}
 use borrow.Author.Rules.{rules}
 use native.Mathlib.Omega.{arith}
 use Rattle.sheet.proofs.calls.put_refusal.Statement.{statement}

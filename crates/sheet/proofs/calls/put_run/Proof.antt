@@ -1,5 +1,5 @@
 -- `sheet::calls::put_run` meets its contract.
-use Rattle.sheet.specs.Called.{fits_wrote}
+use Rattle.sheet.proofs.Called.{fits_wrote}
 use borrow.Author.Rules.{rules}
 use native.Mathlib.Omega.{arith}
 use Rattle.sheet.proofs.calls.put_run.Statement.{statement}

@@ -1,5 +1,5 @@
 -- `sheet::calls::refused` meets its contract.
-use Rattle.sheet.specs.Called.{called_wrote}
+use Rattle.sheet.proofs.Called.{called_wrote}
 use borrow.Author.Rules.{rules}
 use Rattle.sheet.proofs.calls.refused.Statement.{statement}
 use Rattle.sheet.proofs.calls.refused.Tie as tie

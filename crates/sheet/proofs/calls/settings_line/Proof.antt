@@ -2,8 +2,8 @@
 use mathlib.Core.Path.{sym, ◌∙◌}
 use borrow.Author.Tests.{lt-ltb, le-ltb}
 use Rattle.sheet.specs.Sheet.{first_played, first_of}
-use Rattle.forms.specs.Form.{first_in_range}
-use Rattle.sheet.specs.Called.{called_silent}
+use Rattle.forms.proofs.Form.{first_in_range}
+use Rattle.sheet.proofs.Called.{called_silent}
 use borrow.Author.Rules.{rules}
 use Rattle.sheet.proofs.calls.settings_line.Statement.{statement}
 use Rattle.sheet.proofs.calls.settings_line.Tie as tie

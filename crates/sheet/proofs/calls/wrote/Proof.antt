@@ -1,5 +1,5 @@
 -- `sheet::calls::wrote` meets its contract.
-use Rattle.sheet.specs.Called.{called_line}
+use Rattle.sheet.proofs.Called.{called_line}
 use borrow.Author.Rules.{rules}
 use native.Mathlib.Omega.{arith}
 use Rattle.sheet.proofs.calls.wrote.Statement.{statement}

@@ -5,7 +5,7 @@ use Rattle.std.proofs.Math.Path.{refl, ap, ap₂, fun_ext}
 use Rattle.std.proofs.Common.{sym, ◌∙◌, subst, subst₂, arith}
 use borrow.Author.Tests.{ltb-false, eqb-true, eqb-false, eq-eqb, not-false}
 use Rattle.keys.specs.Keys.{has}
-use Rattle.keys.specs.Laws.{has-none}
+use Rattle.keys.proofs.Laws.{has-none}
 use Rattle.rules.specs.State.{fresh, place_at, thread_at}
 use Rattle.rules.specs.Places.{keys_of, keys_after, answer_of}
 use Rattle.rules.specs.Range.{in_range}
@@ -22,7 +22,7 @@ use Rattle.states.specs.Tests.{both, pick-by, pick}
 use Rattle.graph.specs.Cases.{Same, same, apart, compared}
 use Rattle.runs.specs.Calls.{Move, begins, steps, after_move, after_moves, accepted}
 use Rattle.runs.specs.PlainSet.{PlainSet, empty, set_after, replies}
-use Rattle.runs.specs.Tied.{keys_tied, answer_tied}
+use Rattle.runs.proofs.Tied.{keys_tied, answer_tied}
 use Rattle.runs.specs.Log.{commits_now, Entry, entry_of, log_of, play_log, Right}
 use Rattle.order.specs.AtPhase.{at_phase_lem}
 use Rattle.order.specs.Bridge.{place_at_lem}

@@ -7,7 +7,7 @@ use Rattle.rules.specs.Computes.{computes}
 use Rattle.runs.specs.Calls.{after_move, after_moves, times}
 use Rattle.runs.specs.Passes.{one}
 use Rattle.runs.specs.Holders.{Reaches, at, below as child, carries, how_many, holders}
-use Rattle.runs.specs.Instance.{example_settings, plays, joins}
+use Rattle.runs.proofs.Instance.{example_settings, plays, joins}
 
 -- the state after n steps of the last lookup of example D
 unfoldable pub joining : ℕ → State

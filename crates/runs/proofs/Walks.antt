@@ -4,7 +4,7 @@ use Rattle.rules.specs.State.{fresh, thread_at}
 use Rattle.rules.specs.Computes.{computes}
 use Rattle.runs.specs.Calls.{Move, after_move, after_moves, times}
 use Rattle.runs.specs.Passes.{one, takes_route, passed_by, passes, passed}
-use Rattle.runs.specs.Instance.{plays, cross_settings, contended, grown}
+use Rattle.runs.proofs.Instance.{plays, cross_settings, contended, grown}
 
 -- thread 1 joins the base with 4, 5 and 6 and takes n steps: the near way from its P's far child goes by two routes
 unfoldable pub descends : ℕ → List Move

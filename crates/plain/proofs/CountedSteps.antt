@@ -22,8 +22,8 @@ use Rattle.states.specs.Calls.{steps_tests, run_tests_lem}
 use Rattle.states.specs.Kept.{after_in_range}
 use Rattle.runs.specs.Calls.{Move, steps, after_move, after_moves, times, taken_by, Call, move, counted, after_call, after_calls, moves_by, moves_of}
 use Rattle.order.specs.Invariant.{Invariant, after_kept, run_kept}
-use Rattle.order.specs.Bounded.{move_kept}
-use Rattle.plain.specs.Goes.{goes_on}
+use Rattle.order.proofs.Bounded.{move_kept}
+use Rattle.plain.proofs.Goes.{goes_on}
 
 -- one more at the end is one more at the front
 times_last : (s : State) (n : ℕ) (c : Move) → after_moves s (times (suc n) c) ≡ after_move (after_moves s (times n c)) c

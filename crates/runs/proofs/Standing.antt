@@ -5,7 +5,7 @@ use Rattle.rules.specs.Computes.{computes}
 use Rattle.runs.specs.Calls.{Move, steps, after_move, after_moves, times}
 use Rattle.runs.specs.Passes.{one}
 use Rattle.runs.specs.Events.{Due, nothing, due, done, due_of}
-use Rattle.runs.specs.Instance.{plays, cross_settings}
+use Rattle.runs.proofs.Instance.{plays, cross_settings}
 
 -- thread 1 has waited for a base with the key 5 to insert 7, and takes n steps
 unfoldable pub waited : ℕ → List Move

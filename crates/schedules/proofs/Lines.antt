@@ -9,7 +9,7 @@ use Rattle.rules.specs.declared.answer.BeginReply as BeginReply
 use Rattle.rules.specs.declared.answer.RunReply as RunReply
 use Rattle.rules.specs.declared.answer.ListReply as ListReply
 use Rattle.text.specs.Text.{newline, sheet_line, keys_line, OneLine}
-use Rattle.text.specs.Writing.{sheet_line-one, keys-line-one, line_same}
+use Rattle.text.proofs.Writing.{sheet_line-one, keys-line-one, line_same}
 use Rattle.forms.specs.declared.Line as Line
 use Rattle.sheet.specs.Sheet.{refusal, begin_line, run_line, play_form, end_text, end_form}
 

@@ -8,7 +8,7 @@ use Rattle.graph.specs.Cases.{Way, onto, off, way, Same, same, apart, compared, 
 use Rattle.graph.specs.Walk.{Cell, kid, Direction, by, along, next, Walk, step, walk_from, walk_join, walk_turn, walk_stops, first, itself, down, walk_below}
 use Rattle.graph.specs.Tree.{Tree, label, count, Shape, leaf, branch, shape_same, kid_in, label_in, tip_count, walk_in, Through, through, sides_apart}
 use Rattle.graph.specs.Slot.{Slot, Skips, passes, ends, slot_route, slot_key, Child, kept, slot, child, walk_slot}
-use Rattle.graph.specs.Graft.{graft_count, graft_part, graft_label, graft_shape, graft_walk, Cut, cut}
+use Rattle.graph.proofs.Graft.{graft_count, graft_part, graft_label, graft_shape, graft_walk, Cut, cut}
 use Rattle.graph.specs.Graph.{summit, hung, Graph, In, Route, Good, Belongs, Moves}
 
 -- the child f of route p on side v is to take p's place under i on side w; p's other child is the base b; the cells are then `cell`

@@ -23,12 +23,12 @@ use Rattle.states.specs.Tests.{pick}
 use Rattle.states.specs.Kept.{fresh_in_range}
 use Rattle.order.specs.Refusal.{run_not_8}
 use Rattle.order.specs.Invariant.{Invariant, fresh_kept}
-use Rattle.plain.specs.Quiet.{moves_in_range}
-use Rattle.plain.specs.CountedSteps.{Last, run_replies, calls_kept, calls_are_moves}
-use Rattle.plain.specs.Demand.{demand3}
+use Rattle.plain.proofs.Quiet.{moves_in_range}
+use Rattle.plain.proofs.CountedSteps.{Last, run_replies, calls_kept, calls_are_moves}
+use Rattle.plain.proofs.Demand.{demand3}
 use Rattle.forms.specs.Form.{line_form}
 use Rattle.forms.specs.declared.Line as Line
-use Rattle.sheet.specs.States.{begin_state, run_state}
+use Rattle.sheet.proofs.States.{begin_state, run_state}
 use Rattle.sheet.specs.Sheet.{begin_line, run_line, play_form, end_text, end_form, play_lines}
 
 -- the state after the lines of a schedule

@@ -18,12 +18,13 @@ use Rattle.states.specs.Tests.{pick}
 use Rattle.order.specs.Invariant.{Invariant, fresh_kept}
 use Rattle.order.specs.Refusal.{list_not_8, list_keys}
 use Rattle.text.specs.Text.{newline, lines, sheet_line, OneLine}
-use Rattle.text.specs.Writing.{sheet_line-one, lines-first}
-use Rattle.forms.specs.Form.{first_form, line_form, first_in_range}
+use Rattle.text.proofs.Writing.{sheet_line-one, lines-first}
+use Rattle.forms.specs.Form.{first_form, line_form}
+use Rattle.forms.proofs.Form.{first_in_range}
 use Rattle.forms.specs.declared.First as First
 use Rattle.sheet.specs.Sheet.{refusal, play_form, end_text, end_form, play_lines, play_first, play_all, sheet_of}
-use Rattle.schedules.specs.Played.{after_lines, calls_of, schedule_demand3, sheet_lines, lines_sheet, sheet_ends, form_not_8, line_kept, lines_kept, lines_in_range}
-use Rattle.schedules.specs.Lines.{Shown, refused_shown, wrote_shown, form_shown, end_shown}
+use Rattle.schedules.proofs.Played.{after_lines, calls_of, schedule_demand3, sheet_lines, lines_sheet, sheet_ends, form_not_8, line_kept, lines_kept, lines_in_range}
+use Rattle.schedules.proofs.Lines.{Shown, refused_shown, wrote_shown, form_shown, end_shown}
 
 -- ---- the sheet of a file
 

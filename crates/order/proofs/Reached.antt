@@ -12,7 +12,7 @@ use Rattle.order.specs.World.{World, cell, world_of}
 use Rattle.order.specs.Bridge.{reads_route, reads_kid}
 use Rattle.order.specs.Invariant.{Invariant}
 use Rattle.order.specs.KeyList.{root_tree, rest_small, reached_met, reached-only}
-use Rattle.order.specs.Search.{reached_small, reached_in}
+use Rattle.order.proofs.Search.{reached_small, reached_in}
 
 module _ {s : State} (i : Invariant s) where
   abbrev w : World

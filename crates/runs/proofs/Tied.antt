@@ -1,7 +1,7 @@
 -- What ties the plain set to the machine: an operation does to the key set of a base, and answers, what it does to the plain set and answers there.
 use Rattle.std.specs.Prelude.{Bool, true, false, ◌≡◌, refl, ℕ, zero, suc, ◌<◌, eqb}
 use Rattle.keys.specs.Keys.{has, rising, list_of}
-use Rattle.keys.specs.Laws.{has-with, has-without}
+use Rattle.keys.proofs.Laws.{has-with, has-without}
 use Rattle.rules.specs.Places.{keys_after, answer_of}
 use Rattle.runs.specs.PlainSet.{PlainSet, set_after, replies, numbers, only, keys_in}
 

@@ -10,17 +10,17 @@ use Rattle.runs.specs.PlainSet.{PlainSet}
 use Rattle.runs.specs.Log.{log_of}
 use Rattle.runs.specs.Events.{events_of}
 use Rattle.order.specs.Invariant.{fresh_kept}
-use Rattle.order.specs.Search.{left_smaller, right_not_smaller, left_route_smaller, right_route-not_smaller}
-use Rattle.order.specs.Reached.{met_reached, reached-is_met}
+use Rattle.order.proofs.Search.{left_smaller, right_not_smaller, left_route_smaller, right_route-not_smaller}
+use Rattle.order.proofs.Reached.{met_reached, reached-is_met}
 use Rattle.order.specs.Refusal.{step_not_8, run_not_8, list_not_8}
-use Rattle.order.specs.Bounded.{at_most_42}
+use Rattle.order.proofs.Bounded.{at_most_42}
 use Rattle.plain.specs.Plain.{Plain}
 use Rattle.plain.specs.Counted.{plain_holders}
 use Rattle.plain.specs.Runs.{plain_after, run_plain}
-use Rattle.plain.specs.Log.{run_right, run_log, run_counts}
-use Rattle.plain.specs.Events.{run_fits, run_stands, events_log}
-use Rattle.plain.specs.Quiet.{run_quiet}
-use Rattle.plain.specs.CountedSteps.{calls_are_moves}
+use Rattle.plain.proofs.Log.{run_right, run_log, run_counts}
+use Rattle.plain.proofs.Events.{run_fits, run_stands, events_log}
+use Rattle.plain.proofs.Quiet.{run_quiet}
+use Rattle.plain.proofs.CountedSteps.{calls_are_moves}
 
 -- every run has it, whatever its begins, steps and counted steps
 pub demand3 : (c : Settings) (calls : List Call)

@@ -10,7 +10,7 @@ use Rattle.graph.specs.Cases.{Amount, none, some, amount, is, is_same, is_apart,
 use Rattle.graph.specs.Walk.{Cell, kid, Direction, by, Walk, walk_from, walk_join}
 use Rattle.graph.specs.Tree.{Tree, label, count, Shape, shape_same, Once, kid_in, label_in, tip_count, walk_in}
 use Rattle.graph.specs.Slot.{Slot, leaf, slot_route, slot_key, Child, kept, slot, child, walk_slot}
-use Rattle.graph.specs.Graft.{graft_count, graft_label, graft_shape, graft_walk, Cut, cut}
+use Rattle.graph.proofs.Graft.{graft_count, graft_label, graft_shape, graft_walk, Cut, cut}
 use Rattle.graph.specs.Graph.{summit, hung, unmade, Graph, In, Out, Route, Good, Belongs, Moves, hung_made}
 
 -- the tree z, of made nodes that are not hung, is to take the place of the base p under i on side w; the cells are then `cell`

@@ -7,7 +7,7 @@ use Rattle.std.specs.Int.Bits.{bit_or, or_step, or_shifted_r}
 use Rattle.std.proofs.lemmas.Nat.{or_lt}
 use Rattle.std.proofs.Math.Dec.{leb-suc-zero, leb-suc-suc, eqb-suc-zero, eqb-suc-suc, eqb-zero-suc}
 use Rattle.std.proofs.Math.Pow.{split}
-use Rattle.keys.specs.Digits.{has-zero, has-suc, digit_in, digit_out, key_le, with_new, without_key, mod-suc}
+use Rattle.keys.proofs.Digits.{has-zero, has-suc, digit_in, digit_out, key_le, with_new, without_key, mod-suc}
 use Rattle.keys.specs.Keys.{has, with, without, union, below, from}
 
 -- ---- membership

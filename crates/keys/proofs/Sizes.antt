@@ -6,9 +6,9 @@ use Rattle.std.proofs.lemmas.Bool.{eqb-false}
 use Rattle.std.specs.Int.Count.{ones, ones_step}
 use Rattle.std.proofs.lemmas.Nat.{ones_cat, ones-le}
 use Rattle.std.proofs.Math.Pow.{pow-lt, split}
-use Rattle.keys.specs.Digits.{has-suc, digit_in, digit_out, key_le, with_new, without_key, mod-suc}
+use Rattle.keys.proofs.Digits.{has-suc, digit_in, digit_out, key_le, with_new, without_key, mod-suc}
 use Rattle.keys.specs.Keys.{has, with, without, below, from, rising, list_of, size, split_key}
-use Rattle.keys.specs.Laws.{has_small, has_large, has-without, with-lt, without-lt, below-lt, from-lt}
+use Rattle.keys.proofs.Laws.{has_small, has_large, has-without, with-lt, without-lt, below-lt, from-lt}
 
 -- i in front of a list where it is a key: the step of rising
 abbrev front : Bool → ℕ → List ℕ → List ℕ

@@ -8,12 +8,13 @@ use Rattle.rules.specs.declared.state.State.{State}
 use Rattle.rules.specs.declared.answer.BeginReply as BeginReply
 use Rattle.rules.specs.declared.answer.RunReply as RunReply
 use Rattle.rules.specs.declared.answer.ListReply as ListReply
-use Rattle.text.specs.Writing.{line-length, keys-line-length}
+use Rattle.text.proofs.Writing.{line-length, keys-line-length}
 use Rattle.forms.specs.Form.{first_form, line_form}
 use Rattle.forms.specs.declared.First as First
 use Rattle.forms.specs.declared.Line as Line
 use Rattle.sheet.specs.Sheet.{Played, silent, narrow, refusal, begin_line, run_line, play_form, line_of, end_text, end_form, end_of, first_played, first_of}
-use Rattle.sheet.specs.Called.{Called, called_read}
+use Rattle.sheet.specs.Called.{Called}
+use Rattle.sheet.proofs.Called.{called_read}
 use Rattle.sheet.specs.declared.calls.Answer.{Answer}
 
 pub refusal_short : (n : ℕ) → length (refusal n) ≤ 256

@@ -3,7 +3,7 @@ use Rattle.std.specs.Prelude.{List, [], ◌∷◌, ◌≡◌, refl}
 use Rattle.rules.specs.State.{fresh}
 use Rattle.rules.specs.Computes.{computes}
 use Rattle.runs.specs.Calls.{begins, after_move, times, Call, move, counted, after_call, moves_of}
-use Rattle.runs.specs.Instance.{example_settings, plays, joins, example_d}
+use Rattle.runs.proofs.Instance.{example_settings, plays, joins, example_d}
 
 -- its lines, and two more that are refused with 10: they come to no move
 unfoldable pub lines_d : List Call

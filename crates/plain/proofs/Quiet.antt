@@ -10,7 +10,7 @@ use Rattle.rules.specs.declared.state.State.{State}
 use Rattle.states.specs.Kept.{fresh_in_range, begin_in_range, step_in_range}
 use Rattle.runs.specs.Calls.{Move, begins, steps, after_move, after_moves}
 use Rattle.runs.specs.PlainSet.{PlainSet, empty}
-use Rattle.runs.specs.Tied.{list_tied}
+use Rattle.runs.proofs.Tied.{list_tied}
 use Rattle.runs.specs.Log.{log_of, play_log}
 use Rattle.runs.specs.Holders.{Quiet}
 use Rattle.runs.specs.Demand.{ListsThe}
@@ -18,7 +18,7 @@ use Rattle.order.specs.KeyList.{reached_once}
 use Rattle.plain.specs.Plain.{Plain}
 use Rattle.plain.specs.Listed.{quiet-keys}
 use Rattle.plain.specs.Runs.{plain_after, run_plain}
-use Rattle.plain.specs.Log.{run_log}
+use Rattle.plain.proofs.Log.{run_log}
 
 -- moves keep a state in range
 pub moves_in_range : (s : State) (cs : List Move) → in_range s ≡ true → in_range (after_moves s cs) ≡ true

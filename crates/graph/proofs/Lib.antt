@@ -1,0 +1,3 @@
+pub mod Graft
+pub mod Hang
+pub mod Splice

@@ -1,0 +1,4 @@
+pub mod Bounded
+pub mod Stays
+pub mod Search
+pub mod Reached

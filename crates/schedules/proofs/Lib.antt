@@ -1,0 +1,3 @@
+pub mod Files
+pub mod Lines
+pub mod Played

@@ -1,0 +1,5 @@
+pub mod Inner
+pub mod Lengths
+pub mod States
+pub mod Called
+pub mod Examples
