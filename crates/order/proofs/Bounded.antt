@@ -176,7 +176,7 @@ move_kept i (steps t) = step_kept i t
 moves_bound : {s : State} → Invariant s → (t : ℕ) {n : ℕ} → Bound s t n → (cs : List Move) → passed t s cs n ≤ 42
 unfolding passed
 moves_bound i t b [] = b.most
-moves_bound i t b (c ∷ cs) = moves_bound (move_kept i c) t (move_bound i t b c) cs
+moves_bound {s = s} i t {n = n} b (c ∷ cs) = moves_bound {s = after_move s c} (move_kept i c) t (move_bound i t b c) cs
 
 -- no walk of any thread passes more than 42 routes, whatever the moves from a fresh state
 pub at_most_42 : (c : Settings) (t : ℕ) (cs : List Move) → passed t (fresh c) cs 0 ≤ 42

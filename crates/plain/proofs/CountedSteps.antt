@@ -155,13 +155,13 @@ call_kept i (counted t n) = run_kept i t n
 pub calls_kept : {s : State} → Invariant s → (cs : List Call) → Invariant (after_calls s cs)
 unfolding after_calls
 calls_kept i [] = i
-calls_kept i (c ∷ cs) = calls_kept (call_kept i c) cs
+calls_kept {s = s} i (c ∷ cs) = calls_kept {s = after_call s c} (call_kept i c) cs
 
 -- from a state that has the invariant, such as a fresh one, calls come to their moves
 pub calls_are_moves : {s : State} → Invariant s → (cs : List Call) → after_calls s cs ≡ after_moves s (moves_of s cs)
 unfolding after_calls moves_of after_moves
 calls_are_moves i [] = refl
 calls_are_moves {s} i (c ∷ cs) =
-    calls_are_moves (call_kept i c) cs
+    calls_are_moves {s = after_call s c} (call_kept i c) cs
     ∙ ap (λ (x : State). after_moves x (moves_of (after_call s c) cs)) (call_is_moves i c)
     ∙ sym (moves_join s (moves_by s c) (moves_of (after_call s c) cs))
