@@ -1,22 +1,17 @@
 -- `reading::field_count` meets its contract. The invariant: the fields counted and those that are left make all, where one is counted twice.
 use native.Mathlib.Numerals.{add-one}
-use borrow.Author.Tests.{eq-eqb, ne_eqb}
 use lib.ListN.{drop_of_length-le}
 use Rattle.text.specs.Text.{fields}
 use Rattle.text.proofs.Reading.{count_at}
 use borrow.Author.Rules.{rules}
 use native.Mathlib.Omega.{arith}
+use Rattle.std.proofs.lemmas.Bool.Decides.{nat_tests}
 use Rattle.reading.proofs.field_count.Goals as goal
-use Rattle.reading.proofs.field_count.Goals.{then-text-i-eq9, else-text-i-eq9}
 
 pub loop-i-preserved : goal.loop-i-preserved
 loop-i-preserved c =
     let at = count_at c.args.text.now c.loop-i.i (search rules) in
-    rw add-one
-    (elim c.if-text-i-eq9.branch [
-      | then-text-i-eq9 w ↦ omega (arith, simp (eq-eqb _ _ w.if-text-i-eq9.true) at at)
-      | else-text-i-eq9 w ↦ omega (arith, simp (ne_eqb _ _ w.if-text-i-eq9.false) at at)
-    ])
+    rw add-one (grind (arith, nat_tests))
 
 pub returns : goal.returns
 unfolding fields
