@@ -3,18 +3,27 @@
 // 60,000 bytes is too long whatever follows, so the rest is left unread.
 #![tactic(auto)]
 
-use libc::{STDIN_FILENO, STDOUT_FILENO};
+use std::fs;
+use std::fs::{OpenFile, OpenOptions};
+use std::io::{Error, ErrorKind, Result};
+use std::rt::{Env, Files};
 
-// A program has no exit status. One that is started with this argument says on this descriptor whether the whole sheet
-// was written: `whole` or, where a write failed, `short`.
+// The program always ends with the status 0. One that is started with this argument says on descriptor 3 whether the
+// whole sheet was written: `whole` or, where a write failed, `short`.
 const ASKED: [u8; 8] = [b'-', b'-', b'w', b'h', b'o', b'l', b'e', 0];
 
-const WORD_FILENO: i32 = 3;
+// Descriptors by the names that the system has for them, since std reaches only the first three, and closes none with an answer.
+const OUTPUT: &str = "/proc/self/fd/1";
+
+const WORD: &str = "/proc/self/fd/3";
+
+// What the system answers to a call on a descriptor that is not open.
+const EBADF: i32 = 9;
 
 // Whether the first argument is `--whole`.
-fn is_asked() -> bool {
+fn is_asked<R: Env>(rt: &R) -> bool {
     let mut word = [0u8; 8];
-    os::arg(1, &mut word);
+    let _ = rt.arg(1, &mut word);
     let mut i: usize = 0;
     while i < 8 {
         if word[i] != ASKED[i] {
@@ -25,37 +34,72 @@ fn is_asked() -> bool {
     true
 }
 
-// Whether the whole sheet was written, and taken by what it was written to.
-fn is_written(schedule: &[u8]) -> bool {
-    if stream::play(schedule) {
-        return libc::close(STDOUT_FILENO) == 0;
+// Whether what was written is taken by the file that it was written to, which may refuse it later than the write.
+// Only a regular file is asked: what else it can be takes a write at once.
+fn settle<R: Files>(rt: &R) -> Result<()> {
+    let Ok(about) = fs::metadata(rt, OUTPUT) else {
+        return Ok(());
+    };
+    if !about.is_file() {
+        return Ok(());
     }
-    false
+    let Ok(file) = OpenOptions::new().append(true).open(rt, OUTPUT) else {
+        return Ok(());
+    };
+    match file.sync_data() {
+        Err(why) if why.kind() == ErrorKind::InvalidInput => Ok(()),
+        settled => settled,
+    }
 }
 
-fn say(word: &[u8]) {
-    if console::write_all(WORD_FILENO, word).failed {
-        console::tell(b"keysheet: saying whether the sheet is whole");
+// Writes the whole sheet, and sees that it is taken by what it was written to.
+fn write(rt: HostRuntime, schedule: &[u8]) -> Result<()> {
+    stream::play(&mut rt.stdout(), schedule)?;
+    settle(&rt)
+}
+
+fn word_file<R: Files>(rt: &R) -> Result<R::File> {
+    match OpenOptions::new().append(true).open(rt, WORD) {
+        Err(why) if why.kind() == ErrorKind::NotFound => Err(Error::from_raw_os_error(EBADF)),
+        opened => opened,
     }
 }
 
-fn main() {
-    let mut buffer = io::large_buffer();
-    let moved = console::read_all(STDIN_FILENO, &mut buffer);
-    if moved.failed {
-        console::tell(b"keysheet: reading");
+fn say_on<R: Files>(rt: &R, word: &[u8]) -> Result<()> {
+    let mut to = word_file(rt)?;
+    match console::write_all(&mut to, word).failed {
+        Some(why) => Err(why),
+        None => Ok(()),
+    }
+}
+
+fn say(rt: HostRuntime, word: &[u8]) {
+    if let Err(why) = say_on(&rt, word) {
+        console::tell(
+            &mut rt.stderr(),
+            b"keysheet: saying whether the sheet is whole",
+            &why,
+        );
+    }
+}
+
+fn main(rt: HostRuntime) {
+    let mut buffer = [0u8; 65536];
+    let moved = console::read_all(&mut rt.stdin(), &mut buffer);
+    if let Some(why) = moved.failed {
+        console::tell(&mut rt.stderr(), b"keysheet: reading", &why);
         return;
     }
     let n = moved.bytes;
-    let whole = is_written(&buffer[..n]);
-    if !whole {
-        console::tell(b"keysheet: writing");
+    let written = write(rt, &buffer[..n]);
+    if let Err(why) = &written {
+        console::tell(&mut rt.stderr(), b"keysheet: writing", why);
     }
-    if is_asked() {
-        if whole {
-            say(b"whole\n");
+    if is_asked(&rt) {
+        if written.is_ok() {
+            say(rt, b"whole\n");
         } else {
-            say(b"short\n");
+            say(rt, b"short\n");
         }
     }
 }

@@ -3,26 +3,31 @@
 
 ghost use Rattle.std.specs.Prelude.{◌≤◌, ◌<◌};
 
+use std::fs::File;
+use std::str;
+
 // The schedule of number `k`; false where there is none, or what fails is told.
-fn play_file(k: u8) -> bool {
+fn play_file(rt: HostRuntime, k: u8) -> bool {
     let name = [48 + k / 10 % 10, 48 + k % 10];
-    let fd = os::open_read(&name);
-    if fd < 0 {
+    let name = unsafe { str::from_utf8_unchecked(&name) };
+    let Ok(mut file) = File::open(&rt, name) else {
+        return false;
+    };
+    let mut buffer = [0u8; 65536];
+    let moved = console::read_all(&mut file, &mut buffer);
+    if let Some(why) = moved.failed {
+        console::tell(&mut rt.stderr(), b"played: reading", &why);
         return false;
     }
-    let mut buffer = io::large_buffer();
-    let moved = console::read_all(fd, &mut buffer);
-    if moved.failed {
-        console::tell(b"played: reading");
-        return false;
-    }
-    libc::close(fd);
+    drop(file);
     let n = moved.bytes;
-    if stream::play(&buffer[..n]) {
-        return true;
+    match stream::play(&mut rt.stdout(), &buffer[..n]) {
+        Ok(()) => true,
+        Err(why) => {
+            console::tell(&mut rt.stderr(), b"played: writing", &why);
+            false
+        }
     }
-    console::tell(b"played: writing");
-    false
 }
 
 // The number after `k`: 100, the end, where `k` was not found.
@@ -37,9 +42,9 @@ fn after(k: u8, found: bool) -> u8
     100
 }
 
-fn main() {
+fn main(rt: HostRuntime) {
     let mut k: u8 = 0;
     while k < 100 {
-        k = after(k, play_file(k));
+        k = after(k, play_file(rt, k));
     }
 }

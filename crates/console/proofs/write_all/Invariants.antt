@@ -1,0 +1,9 @@
+-- What is done stays within the bytes, and each turn does more.
+use Rattle.std.proofs.Common.{length, ◌-◌, ◌≤◌}
+use Rattle.console.proofs.write_all.Given as goal
+
+abbrev pub invariant-loop-done : goal.invariant-loop-done
+invariant-loop-done g l = l.done ≤ length l.bytes
+
+abbrev pub decreases-loop-done : goal.decreases-loop-done
+decreases-loop-done g l = length l.bytes - l.done
