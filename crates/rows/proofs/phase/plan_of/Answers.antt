@@ -13,6 +13,6 @@ returns-in-25 c = λ h. simp (c.in-25.is, c.row_25.ensures)
 pub returns-in_default : goal.returns-in_default
 returns-in_default c = λ h.
     elim c.in_default.branch [
-        in_default-via-then-p-lt1 w ↦ c.only.ensures ∙ sym (plan_idle _ (omega arith))
+      | in_default-via-then-p-lt1 w ↦ c.only.ensures ∙ sym (plan_idle _ (omega arith))
       | in_default-via-else-p-lt1+else-p-lt6+else-p-lt9+else-p-lt15+else-p-lt21+else-p-lt25 w ↦ c.only.ensures ∙ sym (plan_past _ (omega arith))
     ]
