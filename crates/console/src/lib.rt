@@ -3,7 +3,8 @@
 // Which bytes the system reads or writes is outside what a contract can say. These say how many, and that each function ends.
 #![tactic(auto)]
 
-ghost use Rattle.std.specs.Prelude.{◌≤◌, ◌<◌, ◌≡◌, length, take, None};
+ghost use Rattle.std.specs.Prelude.{◌≤◌, ◌<◌, ◌≡◌, ◌≢◌, length, take, None};
+ghost use Rattle.std.specs.Io.KnownBytes.{Appends, Consumes, IsAtEnd};
 
 use std::fmt;
 use std::fmt::Write as _;
@@ -18,7 +19,8 @@ pub struct Moved {
 
 // How often a call may still be made: again only where a signal broke it off.
 fn calls_left(failed: Option<Error>, left: u32) -> u32
-    ensures { 0 < left → result < left }
+    ensures fewer { 0 < left → result < left }
+    ensures broken_off { 0 < result → failed ≢ None }
 {
     if left == 0 {
         return 0;
@@ -33,7 +35,10 @@ fn calls_left(failed: Option<Error>, left: u32) -> u32
 
 // One call of read: no bytes at the end of the input.
 fn read_once<R: Read>(from: &mut R, buf: &mut [u8]) -> Moved
-    ensures { result.bytes ≤ length buf.new }
+    ensures bytes_in_bounds { result.bytes ≤ length buf.new }
+    ensures none_at_failure { result.failed ≢ None → result.bytes ≡ 0 }
+    ensures taken { Consumes (R.remaining from.old) (R.remaining from.new) (take result.bytes buf.new) }
+    ensures end { result.failed ≡ None → result.bytes ≡ 0 → 0 < length buf.new → IsAtEnd (R.remaining from.new) }
 {
     match from.read(&mut *buf) {
         Ok(n) => Moved {
@@ -49,7 +54,10 @@ fn read_once<R: Read>(from: &mut R, buf: &mut [u8]) -> Moved
 
 // One read; a call that a signal broke off is made again, 1,000 calls in all.
 fn read_some<R: Read>(from: &mut R, buf: &mut [u8]) -> Moved
-    ensures { result.bytes ≤ length buf.new }
+    ensures bytes_in_bounds { result.bytes ≤ length buf.new }
+    ensures none_at_failure { result.failed ≢ None → result.bytes ≡ 0 }
+    ensures taken { Consumes (R.remaining from.old) (R.remaining from.new) (take result.bytes buf.new) }
+    ensures end { result.failed ≡ None → result.bytes ≡ 0 → 0 < length buf.new → IsAtEnd (R.remaining from.new) }
 {
     let mut moved = Moved {
         bytes: 0,
@@ -68,6 +76,8 @@ fn read_some<R: Read>(from: &mut R, buf: &mut [u8]) -> Moved
 pub fn read_all<R: Read>(from: &mut R, buf: &mut [u8]) -> Moved
     ensures bytes_in_bounds { result.bytes ≤ length buf.new }
     ensures bytes_value { result.bytes ≡ length (take result.bytes buf.new) }
+    ensures taken { Consumes (R.remaining from.old) (R.remaining from.new) (take result.bytes buf.new) }
+    ensures end { result.failed ≡ None → result.bytes < length buf.new → IsAtEnd (R.remaining from.new) }
 {
     let mut done: usize = 0;
     while done < buf.len() {
@@ -94,7 +104,9 @@ pub fn read_all<R: Read>(from: &mut R, buf: &mut [u8]) -> Moved
 
 // One call of write.
 fn write_once<W: Write>(to: &mut W, bytes: &[u8]) -> Moved
-    ensures { result.bytes ≤ length bytes.now }
+    ensures bytes_in_bounds { result.bytes ≤ length bytes.now }
+    ensures none_at_failure { result.failed ≢ None → result.bytes ≡ 0 }
+    ensures given { Appends (W.contents to.old) (W.contents to.new) (take result.bytes bytes.now) }
 {
     match to.write(bytes) {
         Ok(n) => Moved {
@@ -110,7 +122,8 @@ fn write_once<W: Write>(to: &mut W, bytes: &[u8]) -> Moved
 
 // One write; a call that a signal broke off is made again, 1,000 calls in all.
 fn write_some<W: Write>(to: &mut W, bytes: &[u8]) -> Moved
-    ensures { result.bytes ≤ length bytes.now }
+    ensures bytes_in_bounds { result.bytes ≤ length bytes.now }
+    ensures given { Appends (W.contents to.old) (W.contents to.new) (take result.bytes bytes.now) }
 {
     let mut moved = Moved {
         bytes: 0,
@@ -137,6 +150,7 @@ fn reason(failed: Option<Error>) -> Error {
 pub fn write_all<W: Write>(to: &mut W, bytes: &[u8]) -> Moved
     ensures bytes_in_bounds { result.bytes ≤ length bytes.now }
     ensures bytes_value { result.failed ≡ None → result.bytes ≡ length bytes.now }
+    ensures given { Appends (W.contents to.old) (W.contents to.new) (take result.bytes bytes.now) }
 {
     let mut done: usize = 0;
     while done < bytes.len() {
