@@ -1,7 +1,7 @@
 -- "Schedule and key sheet": the forms of the schedule's lines.
 use Rattle.std.specs.Prelude.{Bool, true, cond, not, ◌&&◌, ◌||◌, List, [], ◌∷◌, ℕ, eqb, length, get_or, drop}
 use Rattle.rules.specs.Range.{settings_in_range}
-use Rattle.rules.specs.Refusals.{Refusal, ◌if◌, first}
+use Rattle.rules.specs.Refusals.{Refusal, ◌if◌}
 use Rattle.rules.specs.declared.state.Settings.{Settings}
 use Rattle.text.specs.Text.{minus, fields, is_letter, is_number, value, value_if}
 use Rattle.text.specs.declared.Number.{Number}

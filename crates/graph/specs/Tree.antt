@@ -1,6 +1,6 @@
 -- Trees over a graph, and counting: a node stands in a tree as often as it is counted.
 use Rattle.std.specs.Prelude.{Bool, true, false, not, ◌≡◌, refl, ℕ, ◌+◌, ◌≤◌}
-use Rattle.std.proofs.Common.{true≢false, sym, ap, ◌∙◌, arith}
+use Rattle.std.proofs.Common.{true≢false, sym, subst, ap, ◌∙◌, arith}
 use Rattle.graph.specs.Cases.{Test, holds, fails, test, Same, same, apart, compared, Amount, none, some, amount, is, is_same, is_apart, is_some}
 use Rattle.graph.specs.Walk.{Cell, kid, Direction, next, Walk, here, step, walk_from, first, Below, itself, down, below-from}
 
@@ -59,12 +59,12 @@ kid_in {g} (leaf s) x i k w = absurd (true≢false (sym k ∙ ap (λ (m : ℕ). 
 kid_in {g} (branch {n} {l} {r} f a b) x i k w = go (λ j. kid_in a x j k w) (λ j. kid_in b x j k w) (stands i)
   where
     here_in : (v : Bool) → 1 ≤ count (kid v (g n)) (fork n l r)
-    here_in true = rw f.right (omega (arith, label_in r))
-    here_in false = rw f.left (omega (arith, label_in l))
+    here_in true = subst (λ (z : ℕ). 1 ≤ count z (fork n l r)) (sym f.right) (omega (arith, label_in r))
+    here_in false = subst (λ (z : ℕ). 1 ≤ count z (fork n l r)) (sym f.left) (omega (arith, label_in l))
 
     go : (1 ≤ count x l → 1 ≤ count (kid w (g x)) l) → (1 ≤ count x r → 1 ≤ count (kid w (g x)) r) → Stands x n l r
         → 1 ≤ count (kid w (g x)) (fork n l r)
-    go p q (top e) = rw e (here_in w)
+    go p q (top e) = subst (λ (y : ℕ). 1 ≤ count (kid w (g y)) (fork n l r)) (sym e) (here_in w)
     go p q (in_l j) = omega (arith, p j)
     go p q (in_r j) = omega (arith, q j)
 

@@ -29,16 +29,13 @@ use Rattle.order.specs.World.{cells_of}
 use Rattle.order.specs.Bridge.{reads_route, thread_other}
 use Rattle.order.specs.Nodes.{after_nodes}
 use Rattle.order.specs.Invariant.{Invariant, fresh_kept, after_kept, begin_kept, step_kept}
+use Rattle.order.proofs.Room.{room}
 use Rattle.order.specs.WalkRows.{leaves_off, walk_rises, walk_route, given-route}
 
 -- n routes are passed so far: no more than there are up to the walk register's, while the walk goes on
 record Bound (s : State) (t n : ℕ) : Type 0 where
   most : n ≤ 42
   sofar : walk_goes_on (thread_at s t).phase ≡ true → n ≤ routes (cells_of s) (suc (thread_at s t).walk)
-
--- there are at most 42 routes
-room : {s : State} → Invariant s → routes (cells_of s) summit ≤ 42
-room i = omega (arith, i.nodes.safe.sound.many, i.nodes.safe.sound.room)
 
 -- a register that names a route
 names : {s : State} → Invariant s → (x : ℕ) → route x (place_at s x) ≡ true → (x < summit) × ((cells_of s x).route ≡ true)
@@ -176,7 +173,7 @@ move_kept i (steps t) = step_kept i t
 moves_bound : {s : State} → Invariant s → (t : ℕ) {n : ℕ} → Bound s t n → (cs : List Move) → passed t s cs n ≤ 42
 unfolding passed
 moves_bound i t b [] = b.most
-moves_bound i t b (c ∷ cs) = moves_bound (move_kept i c) t (move_bound i t b c) cs
+moves_bound {s = s} i t {n = n} b (c ∷ cs) = moves_bound {s = after_move s c} (move_kept i c) t (move_bound i t b c) cs
 
 -- no walk of any thread passes more than 42 routes, whatever the moves from a fresh state
 pub at_most_42 : (c : Settings) (t : ℕ) (cs : List Move) → passed t (fresh c) cs 0 ≤ 42

@@ -20,7 +20,7 @@ use Rattle.graph.specs.Walk.{Cell, kid, here}
 use Rattle.graph.specs.Count.{routes-none}
 use Rattle.graph.specs.Tree.{Tree, tip, fork, leaf, branch, Stands, top, in_l, in_r, stands}
 use Rattle.graph.specs.Graph.{summit, hung, Route, Good}
-use Rattle.order.specs.World.{cell_of_body, crown, cell_node, cell-summit, World, graph, cell, valid, keys, in_tree, out_of_tree, world_of, Sound}
+use Rattle.order.specs.World.{cell_of_body, crown, cell_node, cell-summit, World, graph, cell, valid, in_tree, out_of_tree, world_of, Sound}
 use Rattle.order.specs.Ordered.{Ordered}
 
 -- node 0 is hung, and all that is no node; the others are not made

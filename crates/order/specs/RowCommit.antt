@@ -20,7 +20,7 @@ use Rattle.rules.specs.declared.state.State.{State}
 use Rattle.graph.specs.Cases.{Same, same, apart, compared}
 use Rattle.graph.specs.Walk.{Cell, by, Walk}
 use Rattle.graph.specs.Count.{routes_same}
-use Rattle.graph.specs.Graph.{summit, hung, Belongs, Makes, makes_moves}
+use Rattle.graph.specs.Graph.{summit, Belongs, Makes, makes_moves}
 use Rattle.order.specs.World.{cell_of_body, cell_at, cell_node, cell_same, World, graph, cell, valid, hold, keys, in_tree, world_of}
 use Rattle.order.specs.Stages.{Stage, BaseAt, Locked, Owning, Holding}
 use Rattle.order.specs.Change.{Change}

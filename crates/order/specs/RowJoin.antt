@@ -7,7 +7,7 @@ use Rattle.std.proofs.Math.Dec.{ltb}
 use Rattle.keys.specs.Keys.{has, union}
 use Rattle.rules.specs.State.{new_node, place_at, thread_at}
 use Rattle.rules.specs.Places.{keys_of}
-use Rattle.rules.specs.Rows.{at, no_join, join, row12}
+use Rattle.rules.specs.Rows.{no_join, join, row12}
 use Rattle.rules.specs.Step.{view_before, view_of, put, apply}
 use Rattle.rules.specs.declared.state.Body.TheVariants.{Base}
 use Rattle.rules.specs.declared.state.Place.{Place}
@@ -16,7 +16,7 @@ use Rattle.graph.specs.Cases.{Same, same, apart, compared, Amount, none, some, a
 use Rattle.graph.specs.Count.{routes, routes_same}
 use Rattle.graph.specs.Walk.{Cell, kid, walks_meet}
 use Rattle.graph.specs.Tree.{count, kid_in}
-use Rattle.graph.specs.Graph.{summit, hung, Route}
+use Rattle.graph.specs.Graph.{summit, Route}
 use Rattle.order.specs.World.{cell_of_body, cell_node, World, graph, cell, valid, keys, in_tree, world_of, Sound}
 use Rattle.order.specs.Stages.{Taken, Pairing}
 use Rattle.order.specs.Change.{Holds, Change}

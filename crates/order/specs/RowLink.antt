@@ -3,7 +3,7 @@ use Rattle.std.specs.Prelude.{Bool, true, false, ◌||◌, ◌≡◌, refl, ℕ,
 use Rattle.std.proofs.Common.{true≢false, sym, ◌∙◌, arith}
 use Rattle.std.proofs.Math.Path.{ap}
 use Rattle.std.proofs.Math.ListN.{get_or}
-use Rattle.keys.specs.Keys.{has, union}
+use Rattle.keys.specs.Keys.{has}
 use Rattle.keys.proofs.Laws.{has-union}
 use Rattle.rules.specs.State.{zero_place, place_at, thread_at}
 use Rattle.rules.specs.Registers.{at_phase}
@@ -15,7 +15,7 @@ use Rattle.graph.specs.Cases.{is_some, is_le}
 use Rattle.graph.specs.Walk.{by, Walk, here}
 use Rattle.graph.specs.Tree.{tip, count, leaf}
 use Rattle.graph.specs.Slot.{slot_route}
-use Rattle.graph.specs.Graph.{summit, hung, hung_made}
+use Rattle.graph.specs.Graph.{summit, hung_made}
 use Rattle.graph.proofs.Hang.{Hangs, hang}
 use Rattle.order.specs.World.{World, graph, cell, keys, world_of, Sound}
 use Rattle.order.specs.Stages.{BaseAt, Linking, Parent}

@@ -10,11 +10,10 @@ use Rattle.rules.specs.Rows.{at, only, stores1, row17, row18}
 use Rattle.rules.specs.Step.{view_before, view_of, apply}
 use Rattle.rules.specs.declared.state.Place.{Place}
 use Rattle.rules.specs.declared.state.State.{State}
-use Rattle.graph.specs.Graph.{hung}
-use Rattle.order.specs.World.{World, cell, valid, hold, world_of, Sound}
+use Rattle.order.specs.World.{World, cell, hold, world_of, Sound}
 use Rattle.order.specs.Stages.{Stage, Dying, Over}
 use Rattle.order.specs.Change.{Change}
-use Rattle.order.specs.Survive.{pairing, dying, over}
+use Rattle.order.specs.Survive.{dying, over}
 use Rattle.order.specs.Bridge.{place_at_lem}
 use Rattle.order.specs.Walks.{route_of, held_in}
 use Rattle.order.specs.Ordered.{Ordered, Stepped}

@@ -13,7 +13,7 @@ use Rattle.rules.specs.declared.state.Place.{Place}
 use Rattle.rules.specs.declared.state.Thread.{Thread}
 use Rattle.rules.specs.declared.state.State.{State}
 use Rattle.graph.specs.Graph.{summit}
-use Rattle.order.specs.World.{World, valid, hold, world_of, Sound}
+use Rattle.order.specs.World.{World, hold, world_of, Sound}
 use Rattle.order.specs.Stages.{stages, Stage, Arrived, Owning, Reached, Pairing, Holding}
 use Rattle.order.specs.Change.{Change}
 use Rattle.order.specs.Survive.{base-at, arrived, reached, pairing, holding_of}

@@ -13,8 +13,8 @@ use Rattle.rules.specs.declared.state.Place.{Place}
 use Rattle.rules.specs.declared.state.State.{State}
 use Rattle.rules.specs.declared.row.Plan.{Plan}
 use Rattle.graph.specs.Cases.{Same, same, apart, compared}
-use Rattle.graph.specs.Graph.{summit, hung}
-use Rattle.order.specs.World.{World, cell, valid, hold, world_of, Sound}
+use Rattle.graph.specs.Graph.{summit}
+use Rattle.order.specs.World.{World, cell, hold, world_of, Sound}
 use Rattle.order.specs.Stages.{Stage, Taken, Ready, Linking, Closing}
 use Rattle.order.specs.Change.{Change}
 use Rattle.order.specs.Survive.{holding, pairing, holding_of}

@@ -16,7 +16,7 @@ use Rattle.rules.specs.declared.state.State.{State}
 use Rattle.graph.specs.Cases.{Same, same, apart, compared}
 use Rattle.graph.specs.Count.{routes, routes_more}
 use Rattle.graph.specs.Walk.{Cell}
-use Rattle.graph.specs.Graph.{summit, hung}
+use Rattle.graph.specs.Graph.{summit}
 use Rattle.order.specs.World.{cell_of_body, cell_node, World, cell, keys, world_of, Sound}
 use Rattle.order.specs.Stages.{Stage, Dense, Splitting}
 use Rattle.order.specs.Change.{Change}

@@ -1,7 +1,6 @@
 -- The conditions of a thread survive a change, one by one.
 use Rattle.std.specs.Prelude.{Bool, true, false, not, ◌≡◌, refl, ℕ, ltb}
 use Rattle.std.proofs.Common.{true≢false, sym, ap, ◌∙◌, arith}
-use Rattle.keys.specs.Keys.{union}
 use Rattle.graph.specs.Cases.{Amount, none, some, amount, Same, same, apart, compared}
 use Rattle.graph.specs.Walk.{Cell, kid, Direction, by, next, Walk}
 use Rattle.graph.specs.Tree.{count, label_in, kid_in}

@@ -1,9 +1,9 @@
 -- The conditions of a thread between splice and link survive a change.
 use Rattle.std.specs.Prelude.{Bool, not, ◌≡◌, ℕ, ltb}
 use Rattle.std.proofs.Common.{sym, ap, ◌∙◌}
-use Rattle.keys.specs.Keys.{has, union}
+use Rattle.keys.specs.Keys.{has}
 use Rattle.graph.specs.Walk.{Cell, kid}
-use Rattle.graph.specs.Graph.{hung, Good}
+use Rattle.graph.specs.Graph.{Good}
 use Rattle.order.specs.World.{World, graph, cell}
 use Rattle.order.specs.Stages.{Linking, Closing, Descending, Parent}
 use Rattle.order.specs.Change.{Other, Holds, Change}

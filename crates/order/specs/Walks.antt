@@ -3,12 +3,12 @@ use Rattle.std.specs.Prelude.{Bool, true, false, not, ◌≡◌, refl, ℕ, ◌�
 use Rattle.std.proofs.Common.{true≢false, sym, ap, ◌∙◌, arith, eq-eqb, ne_eqb, lt-ltb, eqb-true}
 use Rattle.std.proofs.lemmas.Bool.{eqb-false}
 use Rattle.rules.specs.declared.state.Thread.{Thread}
-use Rattle.graph.specs.Cases.{Amount, none, some, amount, holds}
+use Rattle.graph.specs.Cases.{Amount, none, some, amount}
 use Rattle.graph.specs.Walk.{Cell, kid, Direction, by, along, next, Walk, walk_from, walk_on, first, walk_stops}
 use Rattle.graph.specs.Tree.{count, label_in, walk_in}
 use Rattle.graph.specs.Graph.{summit, hung, Route, Good}
 use Rattle.graph.specs.Track.{Track, on, dead, past}
-use Rattle.order.specs.World.{World, graph, cell, cell-summit, valid, hold, keys, in_tree, Sound}
+use Rattle.order.specs.World.{World, graph, cell, cell-summit, valid, hold, in_tree, Sound}
 use Rattle.order.specs.Stages.{BaseAt, RouteAt, Searching, Arrived, Turning, Joining, Seeking, Reached, Dying, Towards, Under, Linking, Closing, Descending, Parent}
 
 module _ {w : World} {thread : ℕ → Thread} {made : ℕ} (sound : Sound w thread made) where

@@ -1,7 +1,7 @@
 -- Counted steps are as many steps, one by one: calls come to the moves that `moves_of` says.
 use Rattle.std.specs.Prelude.{Bool, not, List, [], ◌∷◌, ◌++◌, refl, ltb, eqb}
 use Rattle.std.proofs.Math.Bool.{true, false, cond}
-use Rattle.std.proofs.Common.{true≢false, ◌∙◌, ltb-false, eqb-true, le-ltb}
+use Rattle.std.proofs.Common.{◌∙◌, ltb-false}
 use Rattle.std.proofs.Math.Path.{◌≡◌, sym, ap, ap₂}
 use Prim.Native.Nat.{ℕ, zero, suc, ◌≤◌}
 use native.Mathlib.Omega.{arith}
@@ -20,31 +20,11 @@ use Rattle.rules.specs.declared.answer.RunReply as RunReply
 use Rattle.states.specs.Tests.{pick-by}
 use Rattle.states.specs.Calls.{steps_tests, run_tests_lem}
 use Rattle.states.specs.Kept.{after_in_range}
-use Rattle.runs.specs.Calls.{Move, steps, after_move, after_moves, times, taken_by, Call, move, counted, after_call, after_calls, moves_by, moves_of}
+use Rattle.runs.specs.Calls.{Move, steps, after_move, after_moves, times, Call, move, counted, after_call, after_calls, moves_by, moves_of}
 use Rattle.order.specs.Invariant.{Invariant, after_kept, run_kept}
 use Rattle.order.proofs.Bounded.{move_kept}
 use Rattle.plain.proofs.Goes.{goes_on}
-
--- one more at the end is one more at the front
-times_last : (s : State) (n : ℕ) (c : Move) → after_moves s (times (suc n) c) ≡ after_move (after_moves s (times n c)) c
-unfolding times after_moves
-times_last s zero c = refl
-times_last s (suc n) c = times_last (after_move s c) n c
-
--- an accepted step
-accepts : (s : State) (t : ℕ) → in_range s ≡ true → t ≤ 7 → ((thread_at s t).phase ≡ 0 → ⊥) → stuck (view_of s t) ≡ false
-    → step_of s t ≡ record { reply = reply_of s t; state = after s t }
-unfolding step_of
-accepts s t r l n e =
-    let Q : Step.Step → Type 0 = λ b. b ≡ record { reply = reply_of s t; state = after s t } in
-    pick-by Q (not (in_range s)) (λ f. absurd (true≢false (sym f ∙ ap not r))) λ a.
-    pick-by Q (ltb 7 t) (λ f. absurd (true≢false (sym f ∙ le-ltb 7 t l))) λ b.
-    pick-by Q (eqb (thread_at s t).phase 0) (λ f. absurd (n (eqb-true (thread_at s t).phase 0 f))) λ c.
-    pick-by Q (stuck (view_of s t)) (λ f. absurd (true≢false (sym f ∙ e))) λ d. refl
-
-taken : (s : State) (t : ℕ) → in_range s ≡ true → t ≤ 7 → ((thread_at s t).phase ≡ 0 → ⊥) → stuck (view_of s t) ≡ false → after_move s (steps t) ≡ after s t
-unfolding after_move
-taken s t r l n e = ap (λ (b : Step.Step). b.state) (accepts s t r l n e)
+use Rattle.plain.proofs.RunSteps.{times_last, accepts, taken, run_is-steps}
 
 refuses : {x j a c : ℕ} → RunReply.TheVariants.Refused x ≡ RunReply.TheVariants.Ends j a c → ⊥
 refuses q = let w : ◌≡◌ {A = ℕ} 0 1 = cc in omega arith
@@ -57,22 +37,6 @@ pub record Last (s : State) (t k a c : ℕ) : Type 0 where
 
 -- counted steps, where some were taken
 module _ (from : State) (t : ℕ) (l : t ≤ 7) where
-  abbrev Played : Run → Type 0
-  Played r = r.state ≡ after_moves from (times (taken_by r.reply) (steps t))
-
-  played : (n : ℕ) (s : State) (k : ℕ) → Invariant s → in_range s ≡ true → ((thread_at s t).phase ≡ 0 → ⊥)
-      → s ≡ after_moves from (times k (steps t)) → Played (Rules.steps n from s t k)
-  unfolding Rules.steps times after_moves
-  played zero s k i r n e = e
-  played (suc m) s k i r n e =
-      rw (steps_tests m from s t k)
-      (pick-by Played (stuck (view_of s t)) (λ f. refl) λ f.
-      pick-by Played (ends (thread_at s t)) (λ g. then f) λ g.
-      played m (after s t) (suc k) (after_kept i l) (after_in_range s t l f r) (goes_on i r t l n g) (then f))
-    where
-      then : stuck (view_of s t) ≡ false → after s t ≡ after_moves from (times (suc k) (steps t))
-      then f = sym (taken s t r l n f) ∙ ap (λ (x : State). after_move x (steps t)) e ∙ sym (times_last from k (steps t))
-
   abbrev Told : Run → Type 0
   Told r = (j a c : ℕ) → r.reply ≡ RunReply.TheVariants.Ends j a c → Last from t j a c
 
@@ -107,20 +71,7 @@ module _ (from : State) (t : ℕ) (l : t ≤ 7) where
                 ∙ ap₂ (λ (u v : ℕ). StepReply.TheVariants.Ends u v) x y;
           }
 
--- the state after counted steps is that after as many steps as the reply says were taken; none, where it refuses
-pub run_is-steps : {s : State} → Invariant s → (t n : ℕ) → (run_of s t n).state ≡ after_moves s (times (taken_by (run_of s t n).reply) (steps t))
-unfolding times after_moves
-run_is-steps {s} i t n =
-    let Q : Run → Type 0 = λ r. r.state ≡ after_moves s (times (taken_by r.reply) (steps t)) in
-    rw (run_tests_lem s t n)
-    (pick-by Q (not (in_range s)) (λ e. refl) λ r.
-    pick-by Q (ltb 7 t) (λ e. refl) λ l.
-    pick-by Q (eqb n 0) (λ e. refl) λ a.
-    pick-by Q (ltb 1000 n) (λ e. refl) λ b.
-    pick-by Q (eqb (thread_at s t).phase 0) (λ e. refl) λ c.
-    played s t (ltb-false 7 t l) n s 0 i (not-false _ r) (eqb-false (thread_at s t).phase 0 c) refl)
-
--- and a reply that ends the operation is that of the last of them
+-- a reply that ends the operation is that of the last of the steps taken
 pub run_replies : {s : State} → Invariant s → (t n k a c : ℕ) → (run_of s t n).reply ≡ RunReply.TheVariants.Ends k a c → Last s t k a c
 unfolding times after_moves
 run_replies {s} i t n =
@@ -155,13 +106,13 @@ call_kept i (counted t n) = run_kept i t n
 pub calls_kept : {s : State} → Invariant s → (cs : List Call) → Invariant (after_calls s cs)
 unfolding after_calls
 calls_kept i [] = i
-calls_kept i (c ∷ cs) = calls_kept (call_kept i c) cs
+calls_kept {s = s} i (c ∷ cs) = calls_kept {s = after_call s c} (call_kept i c) cs
 
 -- from a state that has the invariant, such as a fresh one, calls come to their moves
 pub calls_are_moves : {s : State} → Invariant s → (cs : List Call) → after_calls s cs ≡ after_moves s (moves_of s cs)
 unfolding after_calls moves_of after_moves
 calls_are_moves i [] = refl
 calls_are_moves {s} i (c ∷ cs) =
-    calls_are_moves (call_kept i c) cs
+    calls_are_moves {s = after_call s c} (call_kept i c) cs
     ∙ ap (λ (x : State). after_moves x (moves_of (after_call s c) cs)) (call_is_moves i c)
     ∙ sym (moves_join s (moves_by s c) (moves_of (after_call s c) cs))

@@ -199,9 +199,9 @@ calls_story : {s : State} → Invariant s → (cs : List Move) (f : ℕ → Due)
 unfolding events_of after_move after_moves
 calls_story i [] f a = record { fits = tt; stands = a }
 calls_story {s} i (begins t o k ∷ cs) f a =
-    begin_story i f a t o k (events_of (begin_of s t o k).state cs) (calls_story (begin_kept i t o k) cs) (start s t o k)
+    begin_story i f a t o k (events_of (begin_of s t o k).state cs) (calls_story {s = (begin_of s t o k).state} (begin_kept i t o k) cs) (start s t o k)
 calls_story {s} i (steps t ∷ cs) f a =
-    step_story i f a t (events_of (step_of s t).state cs) (calls_story (step_kept i t) cs) (outcome s t)
+    step_story i f a t (events_of (step_of s t).state cs) (calls_story {s = (step_of s t).state} (step_kept i t) cs) (outcome s t)
 
 module _ (c : Settings) (cs : List Move) where
   story : Story nothing_due (events_of (fresh c) cs) (after_moves (fresh c) cs)

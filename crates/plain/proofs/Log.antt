@@ -158,8 +158,8 @@ module _ {s : State} {p : ℕ} (x : Plain s p) (t : ℕ) (L : List Entry) where
 right : {s : State} {p : ℕ} → Plain s p → (cs : List Move) → Right (has p) s.committed (log_of s cs)
 unfolding log_of plain_move after_move
 right x [] = tt
-right {s} x (begins t o k ∷ cs) = move (log_of (begin_of s t o k).state cs) refl (begin_committed s t o k) (right (move_plain x (begins t o k)) cs)
-right {s} x (steps t ∷ cs) = step_right x t (log_of (step_of s t).state cs) (right (move_plain x (steps t)) cs)
+right {s} x (begins t o k ∷ cs) = move (log_of (begin_of s t o k).state cs) refl (begin_committed s t o k) (right {s = (begin_of s t o k).state} (move_plain x (begins t o k)) cs)
+right {s} x (steps t ∷ cs) = step_right x t (log_of (step_of s t).state cs) (right {s = (step_of s t).state} (move_plain x (steps t)) cs)
 
 -- from fresh, the commits of any calls answer as the plain set taken in commit order, starting empty, and are numbered from 1
 pub run_right : (c : Settings) (cs : List Move) → Right empty 0 (log_of (fresh c) cs)
@@ -169,8 +169,8 @@ run_right c cs = move (log_of (fresh c) cs) none-empty refl (right (fresh_plain 
 by_log : {s : State} {p : ℕ} → Plain s p → (cs : List Move) → has (plain_after s cs p) ≡ play_log (has p) (log_of s cs)
 unfolding plain_after log_of after_move plain_move play_log
 by_log x [] = refl
-by_log x (begins t o k ∷ cs) = by_log (move_plain x (begins t o k)) cs
-by_log {s} x (steps t ∷ cs) = by_log (move_plain x (steps t)) cs ∙ step_log x t (log_of (step_of s t).state cs)
+by_log {s} x (begins t o k ∷ cs) = by_log {s = (begin_of s t o k).state} (move_plain x (begins t o k)) cs
+by_log {s} x (steps t ∷ cs) = by_log {s = (step_of s t).state} (move_plain x (steps t)) cs ∙ step_log x t (log_of (step_of s t).state cs)
 
 -- the plain set after any calls from fresh is that of their commits
 pub run_log : (c : Settings) (cs : List Move) → has (plain_after (fresh c) cs 0) ≡ play_log empty (log_of (fresh c) cs)
@@ -196,9 +196,9 @@ step_count {s} x t n L h = go (outcome s t)
 counts : {s : State} {p : ℕ} → Plain s p → (cs : List Move) → (after_moves s cs).committed ≡ s.committed + length (log_of s cs)
 unfolding after_moves after_move log_of
 counts x [] = omega arith
-counts {s} x (begins t o k ∷ cs) = omega (arith, counts (move_plain x (begins t o k)) cs, begin_committed s t o k)
+counts {s} x (begins t o k ∷ cs) = omega (arith, counts {s = (begin_of s t o k).state} (move_plain x (begins t o k)) cs, begin_committed s t o k)
 counts {s} x (steps t ∷ cs) =
-    step_count x t (after_moves (step_of s t).state cs).committed (log_of (step_of s t).state cs) (counts (move_plain x (steps t)) cs)
+    step_count x t (after_moves (step_of s t).state cs).committed (log_of (step_of s t).state cs) (counts {s = (step_of s t).state} (move_plain x (steps t)) cs)
 
 -- from fresh, the log has as many commits as are committed
 pub run_counts : (c : Settings) (cs : List Move) → (after_moves (fresh c) cs).committed ≡ length (log_of (fresh c) cs)

@@ -5,7 +5,7 @@ use Rattle.std.proofs.lemmas.Bool.{not-false}
 use Rattle.rules.specs.State.{fresh, thread_at}
 use Rattle.rules.specs.Range.{in_range}
 use Rattle.rules.specs.Needs.{stuck}
-use Rattle.rules.specs.Step.{begun, begin_of, view_of, ends, reply_of, step_of}
+use Rattle.rules.specs.Step.{begin_of, view_of, ends, reply_of, step_of}
 use Rattle.rules.specs.Answers.{step_number}
 use Rattle.rules.specs.declared.state.Settings.{Settings}
 use Rattle.rules.specs.declared.state.State.{State}
@@ -50,7 +50,7 @@ move_plain {s} {p} x (steps t) =
 pub moves_plain : {s : State} {p : ℕ} → Plain s p → (cs : List Move) → Plain (after_moves s cs) (plain_after s cs p)
 unfolding after_moves plain_after
 moves_plain x [] = x
-moves_plain x (c ∷ cs) = moves_plain (move_plain x c) cs
+moves_plain {s = s} {p = p} x (c ∷ cs) = moves_plain {s = after_move s c} (move_plain x c) cs
 
 -- after any calls from a fresh state
 pub run_plain : (c : Settings) (cs : List Move) → Plain (after_moves (fresh c) cs) (plain_after (fresh c) cs 0)

@@ -13,7 +13,7 @@ use Rattle.rules.specs.State.{none}
 use Rattle.rules.specs.Registers.{at_phase}
 use Rattle.rules.specs.Places.{is_route, is_base, is_free, keys_of, release, with_keys, answer_of}
 use Rattle.rules.specs.Rows.{at, stores1, above_max, below_min, keys_then, commits, decides, no_split, split, row0, row1, row2, row3, row4, row5, row6, row7, row8, row25}
-use Rattle.rules.specs.Needs.{route, base, base_b, none_or_p, commitable}
+use Rattle.rules.specs.Needs.{route, base_b, none_or_p, commitable}
 use Rattle.rules.specs.declared.state.Place.{Place}
 use Rattle.rules.specs.declared.row.View.{View}
 use Rattle.rules.specs.declared.row.Plan.{Plan}

@@ -177,11 +177,18 @@ keys-line-length letter ns m =
 pub front_read : (l xs : List ℕ) → length xs ≤ length l → take (length xs) (sets l 0 xs) ≡ xs
 front_read l xs h = rw (sets-eq xs l 0 (omega arith)) (take-append_seam xs _)
 
+take_none : (l : List ℕ) → take 0 l ≡ []
+take_none [] = refl
+take_none (x ∷ l) = refl
+
 -- a write at the front of the bytes from a place on is a write at that place
 pub sets_behind : (l : List ℕ) (i : ℕ) (xs : List ℕ) → i + length xs ≤ length l → take i l ++ sets (drop i l) 0 xs ≡ sets l i xs
 sets_behind l i xs h =
     let z : 0 + length xs ≡ length xs = omega arith in
-    rw (sets-eq xs l i h, sets-eq xs (drop i l) 0 (simp length-drop (omega arith)), z, drop-drop, append_assoc)
+    let front : sets (drop i l) 0 xs ≡ xs ++ drop (length xs) (drop i l) =
+    rw (sets-eq xs (drop i l) 0 (simp length-drop (omega arith)), z) (ap (λ t. (t ++ xs) ++ drop (length xs) (drop i l)) (take_none (drop i l)))
+    in
+    rw (sets-eq xs l i h, front, drop-drop, append_assoc)
 
 -- ---- lines
 

@@ -1,4 +1,4 @@
-// The bytes of schedules and sheets: definitions and laws, in specs/. No functions.
+// The bytes of schedules and sheets: definitions, in specs/, and laws, in proofs/. No functions.
 #![tactic(auto)]
 
 // What a part of a line says as a number.

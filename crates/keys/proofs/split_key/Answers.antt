@@ -49,7 +49,7 @@ loop-k-preserved c =
     let inside = c.loop-k-test.true in
     let was = sym c.has.ensures in
     elim c.if-has.branch [
-        then-has+else-skip-eq0 w ↦ inv ∙ passed _ _ _ inside (was ∙ w.if-has.true) w.if-skip-eq0.false ∙ rw (← w.skip-is)
+      | then-has+else-skip-eq0 w ↦ inv ∙ passed _ _ _ inside (was ∙ w.if-has.true) w.if-skip-eq0.false ∙ rw (← w.skip-is)
       | else-has w ↦ inv ∙ none _ _ _ inside (was ∙ w.if-has.false) ∙ rw (← w.skip-is)
     ]
 

@@ -1,2 +1,0 @@
-pub mod LentLock
-pub mod Names
