@@ -5,6 +5,7 @@
 
 ghost use Rattle.std.specs.Prelude.{◌≤◌, ◌<◌, ◌≡◌, ◌≢◌, length, take, None};
 ghost use Rattle.std.specs.Io.KnownBytes.{Appends, Consumes, IsAtEnd};
+ghost use Rattle.std.specs.IoError.{error_kind};
 
 use std::fmt;
 use std::fmt::Write as _;
@@ -201,7 +202,9 @@ impl fmt::Write for Text {
 }
 
 // Says what failed, and why in the system's words. Nobody is told of a reader that has gone.
-pub fn tell<W: Write>(to: &mut W, what: &[u8], why: &Error) {
+pub fn tell<W: Write>(to: &mut W, what: &[u8], why: &Error)
+    ensures { error_kind why.now ≡ ErrorKind.BrokenPipe → to.new ≡ to.old }
+{
     if why.kind() != ErrorKind::BrokenPipe {
         let mut text = Text {
             room: [0; 128],
