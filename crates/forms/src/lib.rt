@@ -10,14 +10,14 @@ use rules::state::Settings;
 use text::Number;
 
 // The first line.
-#[derive(Drop)]
+#[derive(Clone, Copy)]
 pub enum First {
     Settings { settings: Settings },
     Slip,
 }
 
 // Any other line.
-#[derive(Drop)]
+#[derive(Clone, Copy)]
 pub enum Line {
     Begin {
         thread: u32,

@@ -10,7 +10,7 @@ ghost use Rattle.player.specs.Ahead.{Ahead, Among};
 use rules::state::State;
 
 // Where a play stands: the first byte not yet played, the stage (0 before the first line, 1 among the lines, 2 at the end) and the state.
-#[derive(Drop)]
+#[derive(Clone, Copy)]
 pub struct Player {
     pub at: usize,
     pub stage: u8,
@@ -18,7 +18,7 @@ pub struct Player {
 }
 
 // What a call gives: the refusal number or 0, how many bytes it wrote, and where the play stands then.
-#[derive(Drop)]
+#[derive(Clone, Copy)]
 pub struct Turn {
     pub number: u8,
     pub length: usize,

@@ -150,7 +150,7 @@ unfolding play_lines
 lines_8 {s} i [] = alone_8 (end_shown s (key_list_of s)) (list_not_8 i)
 lines_8 {s} i (l ∷ ls) =
     line_8 (form_shown s (line_form l)) (form_not_8 i (line_form l)) (play_lines (play_form s (line_form l)).state ls)
-    (lines_8 (line_kept i (line_form l)) ls)
+    (lines_8 {s = (play_form s (line_form l)).state} (line_kept i (line_form l)) ls)
 
 -- "Refusal 8 never occurs in a state reached from fresh": whatever the file, no line of its sheet is `X 8`
 pub file_without_8 : (file : List ℕ) → Without8 (sheet_of file)

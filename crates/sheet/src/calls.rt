@@ -16,7 +16,7 @@ use rules::state::{Settings, State};
 const LEAST_ROOM: usize = 256;
 
 // What a line call answers: the refusal number or 0, how many bytes it wrote, and the state after.
-#[derive(Drop)]
+#[derive(Clone, Copy)]
 pub struct Answer {
     pub number: u8,
     pub length: usize,

@@ -2,7 +2,7 @@
 #![tactic(auto)]
 
 // What a part of a line says as a number.
-#[derive(Drop)]
+#[derive(Clone, Copy)]
 pub enum Number {
     Value { value: u32 },
     Slip,

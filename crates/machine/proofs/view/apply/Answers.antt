@@ -50,17 +50,17 @@ returns c =
     let v = c.if-j-lt128.u in
     let e : u ≡ stored a.p.first a.s =
     elim c.if-i-lt128.branch [
-        then-i-lt128 w ↦ w.u-is ∙ store_in _ _ w.if-i-lt128.true
+      | then-i-lt128 w ↦ w.u-is ∙ store_in _ _ w.if-i-lt128.true
       | else-i-lt128 w ↦ w.u-is ∙ store_out _ _ w.if-i-lt128.false
     ] in
     let f : v ≡ stored a.p.second u =
     elim c.if-j-lt128.branch [
-        then-j-lt128 w ↦ w.u-is ∙ store_in _ _ w.if-j-lt128.true
+      | then-j-lt128 w ↦ w.u-is ∙ store_in _ _ w.if-j-lt128.true
       | else-j-lt128 w ↦ w.u-is ∙ store_out _ _ w.if-j-lt128.false
     ] in
     let g : c.if-k-lt128.u ≡ stored a.p.third v =
     elim c.if-k-lt128.branch [
-        then-k-lt128 w ↦ w.u-is ∙ store_in _ _ w.if-k-lt128.true
+      | then-k-lt128 w ↦ w.u-is ∙ store_in _ _ w.if-k-lt128.true
       | else-k-lt128 w ↦ w.u-is ∙ store_out _ _ w.if-k-lt128.false
     ] in
     simp (g, f, e)
