@@ -1,11 +1,17 @@
 // Plays a schedule and writes its key sheet.
 #![tactic(auto)]
 
+ghost use Rattle.std.specs.Prelude.{OnOk};
+ghost use Rattle.std.specs.Io.KnownBytes.{Appends};
+ghost use Rattle.sheet.specs.Sheet.{sheet_of};
+
 use std::io::{Result, Write};
 
 // Writes all of these bytes.
-fn put<W: Write>(to: &mut W, part: &[u8]) -> Result<()> {
-    match console::write_all(to, part).failed {
+fn put<W: Write>(to: &mut W, part: &[u8]) -> Result<()>
+    ensures { OnOk result (Appends (W.contents to.old) (W.contents to.new) part.now) }
+{
+    match console::write_all(&mut *to, part).failed {
         Some(why) => Err(why),
         None => Ok(()),
     }
@@ -13,7 +19,9 @@ fn put<W: Write>(to: &mut W, part: &[u8]) -> Result<()> {
 
 // The file is played in one room, as many lines a call as fit, and what each call leaves there is written. The answer is whether all was written,
 // or why not; a write that fails is the last.
-pub fn play<W: Write>(to: &mut W, file: &[u8]) -> Result<()> {
+pub fn play<W: Write>(to: &mut W, file: &[u8]) -> Result<()>
+    ensures { OnOk result (Appends (W.contents to.old) (W.contents to.new) (sheet_of file.now)) }
+{
     let mut room = [0u8; 32768];
     let mut p = player::open();
     while p.stage != 2 {

@@ -1,5 +1,5 @@
 -- The name is two digits, so it is text.
-use Rattle.std.proofs.Common.{arith, ◌<◌, ◌+◌, ◌/◌, ◌%◌, ℕ, ◌∷◌, []}
+use Rattle.std.proofs.Common.{arith, ◌+◌, ◌/◌, ◌%◌, ◌∷◌, []}
 use Rattle.std.proofs.lemmas.Str.{IsUtf8-from_ascii}
 use Rattle.std.proofs.lemmas.Str.Ascii.{IsAscii-nil, IsAscii-cons}
 use Rattle.played.proofs.play_file.Goals as goal
