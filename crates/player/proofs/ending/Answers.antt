@@ -15,4 +15,4 @@ overflow_add-result c =
 pub returns : goal.returns
 returns c = λ file o l n h t.
     let a = c in
-    rw c.last_refused.ensures (ahead_end file n (turned_stage t a.requires.stage) a.requires.range (omega (arith, c.if-room-used-lt256.false, a.requires.fits)) (h (omega (arith, c.if-room-used-lt256.false, a.requires.fits))) c.end_line-a.ensures)
+    rw c.last_refused.ensures (ahead_end file n (turned_stage t a.requires.stage) a.requires.range (omega (arith, a.requires.fits)) (h (omega (arith, a.requires.fits))) c.end_line-a.ensures)
