@@ -85,6 +85,7 @@ fn refused_begin(s: State, number: u8) -> Begin
 
 // Begin operation `o` (0 insert, 1 delete, 2 lookup) on key `k` in thread `t`, without the range test: begun goes up by one, and the thread gets
 // the operation, the key and phase 1.
+#[tactic(auto, unfolding(rules::specs::State::thread_at, rules::specs::Step::begun))]
 pub fn begin_in(s: State, t: u32, o: u32, k: u32) -> Begin
     ensures { result ≡ begin_in s t o k }
 {

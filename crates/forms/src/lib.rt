@@ -32,6 +32,7 @@ pub enum Line {
 }
 
 // A number below 0: a minus, and a number that is not 0.
+#[tactic(auto, unfolding(crate::specs::Form::is_below, text::specs::Text::value_if))]
 fn below_of(part: &[u8]) -> Number
     ensures { result ≡ below_read part.now }
 {
@@ -51,6 +52,7 @@ fn below_of(part: &[u8]) -> Number
 }
 
 // How far min lies below 0.
+#[tactic(auto, unfolding(crate::specs::Form::is_min, crate::specs::Form::low_of, text::specs::Text::value_if))]
 fn low_of(part: &[u8]) -> Number
     ensures { result ≡ low_read part.now }
 {

@@ -7,6 +7,7 @@ ghost use Rattle.text.specs.Text.{until, fields, is_letter, digits, value, is_nu
 use text::Number;
 
 // The index of the first b, or the length where there is none.
+#[tactic(auto, using(crate::proofs::Steps::until_next, crate::proofs::Steps::until_end))]
 pub fn until(text: &[u8], b: u8) -> usize
     ensures { result ≡ until b text.now }
 {
@@ -54,6 +55,7 @@ pub fn field(text: &[u8], i: usize) -> &[u8]
 }
 
 // Whether a part is the letter b alone.
+#[tactic(auto, unfolding(text::specs::Text::is_letter))]
 pub fn is_letter(part: &[u8], b: u8) -> bool
     ensures { result ≡ is_letter b part.now }
 {
@@ -61,6 +63,7 @@ pub fn is_letter(part: &[u8], b: u8) -> bool
 }
 
 // Whether every byte of a part is a digit.
+#[tactic(auto, using(crate::proofs::Steps::digits_next, crate::proofs::Steps::digits_end))]
 fn digits(part: &[u8]) -> bool
     ensures { result ≡ digits part.now }
 {
@@ -93,6 +96,7 @@ fn value(part: &[u8]) -> u32
 }
 
 // Whether a part is 1 to 7 digits, with no leading zero but `0` itself.
+#[tactic(auto, unfolding(text::specs::Text::is_number))]
 fn is_number(part: &[u8]) -> bool
     ensures { result ≡ is_number part.now }
 {

@@ -23,8 +23,11 @@ use Rattle.forms.specs.Form.{first_form, line_form}
 use Rattle.forms.proofs.Form.{first_in_range}
 use Rattle.forms.specs.declared.First as First
 use Rattle.sheet.specs.Sheet.{refusal, play_form, end_text, end_form, play_lines, play_first, play_all, sheet_of}
-use Rattle.schedules.proofs.Played.{after_lines, calls_of, schedule_demand3, sheet_lines, lines_sheet, sheet_ends, form_not_8, line_kept, lines_kept, lines_in_range}
-use Rattle.schedules.proofs.Lines.{Shown, refused_shown, wrote_shown, form_shown, end_shown}
+use Rattle.schedules.specs.Played.{after_lines, calls_of, sheet_lines, lines_sheet}
+use Rattle.schedules.proofs.Played.{schedule_demand3, sheet_ends, form_not_8, line_kept, lines_kept, lines_in_range}
+use Rattle.schedules.specs.Lines.{Shown}
+use Rattle.schedules.proofs.RefusedLines.{refused_shown}
+use Rattle.schedules.proofs.Lines.{wrote_shown, form_shown, end_shown}
 
 -- ---- the sheet of a file
 

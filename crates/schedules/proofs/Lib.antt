@@ -1,3 +1,5 @@
 pub mod Files
 pub mod Lines
 pub mod Played
+pub mod LineCalls
+pub mod RefusedLines

@@ -8,20 +8,12 @@ use Rattle.rules.specs.declared.state.State.{State}
 use Rattle.rules.specs.declared.answer.BeginReply as BeginReply
 use Rattle.rules.specs.declared.answer.RunReply as RunReply
 use Rattle.rules.specs.declared.answer.ListReply as ListReply
-use Rattle.text.specs.Text.{newline, sheet_line, keys_line, OneLine}
-use Rattle.text.proofs.Writing.{sheet_line-one, keys-line-one, line_same}
+use Rattle.text.specs.Text.{newline, sheet_line, keys_line}
+use Rattle.text.proofs.Writing.{sheet_line-one, keys-line-one}
 use Rattle.forms.specs.declared.Line as Line
 use Rattle.sheet.specs.Sheet.{refusal, begin_line, run_line, play_form, end_text, end_form}
-
--- a sheet line l, of a line call that answers with number n
-pub record Shown (n : ℕ) (l : List ℕ) : Type 0 where
-  pub one : OneLine l
-  pub eight : l ≡ refusal 8 → n ≡ 8
-
--- that of a refusal
-pub refused_shown : (n : ℕ) → Shown n (refusal n)
-unfolding refusal
-refused_shown n = record { one = sheet_line-one 88 (n ∷ []) refl; eight = line_same 88 n 8 (omega arith) }
+use Rattle.schedules.specs.Lines.{Shown}
+use Rattle.schedules.proofs.RefusedLines.{refused_shown}
 
 -- one with another letter
 pub wrote_shown : (letter : ℕ) (ns : List ℕ) → eqb letter newline ≡ false → (letter ≡ 88 → ⊥) → Shown 0 (sheet_line letter ns)

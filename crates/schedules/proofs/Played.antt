@@ -13,7 +13,7 @@ use Rattle.rules.specs.declared.answer.Begin.{Begin}
 use Rattle.rules.specs.declared.answer.BeginReply as BeginReply
 use Rattle.rules.specs.declared.answer.RunReply as RunReply
 use Rattle.rules.specs.declared.answer.ListReply as ListReply
-use Rattle.runs.specs.Calls.{begins, after_move, Call, move, counted, after_call, after_calls, moves_of}
+use Rattle.runs.specs.Calls.{after_calls, moves_of}
 use Rattle.runs.specs.PlainSet.{empty, keys_in}
 use Rattle.runs.specs.Log.{log_of, play_log}
 use Rattle.runs.specs.Events.{events_of}
@@ -28,33 +28,9 @@ use Rattle.plain.proofs.CountedSteps.{Last, run_replies, calls_kept, calls_are_m
 use Rattle.plain.proofs.Demand.{demand3}
 use Rattle.forms.specs.Form.{line_form}
 use Rattle.forms.specs.declared.Line as Line
-use Rattle.sheet.proofs.States.{begin_state, run_state}
 use Rattle.sheet.specs.Sheet.{begin_line, run_line, play_form, end_text, end_form, play_lines}
-
--- the state after the lines of a schedule
-unfoldable pub after_lines : State → List (List ℕ) → State
-after_lines s [] = s
-after_lines s (l ∷ ls) = after_lines (play_form s (line_form l)).state ls
-
--- the call of a line; a slip is none
-abbrev pub call_of : Line.Line → List Call
-call_of (Line.TheVariants.Begin t o k) = move (begins t o k) ∷ []
-call_of (Line.TheVariants.Steps t n) = counted t n ∷ []
-call_of Line.TheVariants.Slip = []
-
--- the calls of the lines of a schedule
-unfoldable pub calls_of : List (List ℕ) → List Call
-calls_of [] = []
-calls_of (l ∷ ls) = call_of (line_form l) ++ calls_of ls
-
--- a line leaves the state of its call
-line-is_call : (s : State) (f : Line.Line) (cs : List Call) → after_calls s (call_of f ++ cs) ≡ after_calls (play_form s f).state cs
-unfolding play_form after_calls after_call after_move
-line-is_call s (Line.TheVariants.Begin t o k) cs =
-    ap (λ (x : State). after_calls x cs) (sym (begin_state t (begin_of s t o k).state (begin_of s t o k).reply))
-line-is_call s (Line.TheVariants.Steps t n) cs =
-    ap (λ (x : State). after_calls x cs) (sym (run_state t (run_of s t n).state (run_of s t n).reply))
-line-is_call s Line.TheVariants.Slip cs = refl
+use Rattle.schedules.specs.Played.{after_lines, call_of, calls_of, sheet_lines, lines_sheet}
+use Rattle.schedules.proofs.LineCalls.{line-is_call}
 
 lines_are_calls : (s : State) (ls : List (List ℕ)) → after_lines s ls ≡ after_calls s (calls_of ls)
 unfolding after_lines calls_of after_calls
@@ -66,15 +42,6 @@ pub schedule_demand3 : (c : Settings) (ls : List (List ℕ))
     → Demand3 c (calls_of ls) (after_lines (fresh c) ls) (events_of (fresh c) (moves_of (fresh c) (calls_of ls)))
     (log_of (fresh c) (moves_of (fresh c) (calls_of ls)))
 schedule_demand3 c ls = rw (lines_are_calls (fresh c) ls) (demand3 c (calls_of ls))
-
--- the sheet lines of the lines of a schedule, one for each, without `E`
-unfoldable pub sheet_lines : State → List (List ℕ) → List (List ℕ)
-sheet_lines s [] = []
-sheet_lines s (l ∷ ls) = (play_form s (line_form l)).sheet ∷ sheet_lines (play_form s (line_form l)).state ls
-
--- their bytes
-abbrev pub lines_sheet : State → List (List ℕ) → List ℕ
-lines_sheet s ls = flatten (sheet_lines s ls)
 
 -- `E` is that of the state after the lines
 pub sheet_ends : (s : State) (ls : List (List ℕ))
