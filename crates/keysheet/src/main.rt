@@ -4,8 +4,9 @@
 #![tactic(auto)]
 
 use std::fs;
-use std::fs::{OpenFile, OpenOptions};
+use std::fs::{Metadata, OpenFile, OpenOptions};
 use std::io::{Error, ErrorKind, Result};
+use std::os::unix::fs::MetadataExt;
 use std::rt::{Env, Files};
 
 // The program always ends with the status 0. One that is started with this argument says on descriptor 3 whether the
@@ -34,13 +35,18 @@ fn is_asked<R: Env>(rt: &R) -> bool {
     true
 }
 
-// Whether what was written is taken by the file that it was written to, which may refuse it later than the write.
-// Only a regular file is asked: what else it can be takes a write at once.
+// Whether a file may refuse what was written to it as late as its close: one on a network or behind a program, and none on
+// a disk. Linux gives a file system without a disk the major number 0.
+fn is_late(about: &Metadata) -> bool {
+    about.is_file() && about.dev() / 256 % 4096 == 0
+}
+
+// Whether what was written is taken by such a file. It is asked to take it now, since std tells no error of a close.
 fn settle<R: Files>(rt: &R) -> Result<()> {
     let Ok(about) = fs::metadata(rt, OUTPUT) else {
         return Ok(());
     };
-    if !about.is_file() {
+    if !is_late(&about) {
         return Ok(());
     }
     let Ok(file) = OpenOptions::new().append(true).open(rt, OUTPUT) else {

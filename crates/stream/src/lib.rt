@@ -1,7 +1,8 @@
 // Plays a schedule and writes its key sheet.
 #![tactic(auto)]
 
-ghost use Rattle.std.specs.Prelude.{OnOk};
+ghost use Rattle.std.specs.Prelude.{ℕ, List, OnOk};
+ghost use Rattle.std.specs.Io.{StartsWith};
 ghost use Rattle.std.specs.Io.KnownBytes.{Appends};
 ghost use Rattle.sheet.specs.Sheet.{sheet_of};
 
@@ -9,7 +10,8 @@ use std::io::{Result, Write};
 
 // Writes all of these bytes.
 fn put<W: Write>(to: &mut W, part: &[u8]) -> Result<()>
-    ensures { OnOk result (Appends (W.contents to.old) (W.contents to.new) part.now) }
+    ensures whole { OnOk result (Appends (W.contents to.old) (W.contents to.new) part.now) }
+    ensures front { (bs : List ℕ) × StartsWith part.now bs × Appends (W.contents to.old) (W.contents to.new) bs }
 {
     match console::write_all(&mut *to, part).failed {
         Some(why) => Err(why),
@@ -20,7 +22,8 @@ fn put<W: Write>(to: &mut W, part: &[u8]) -> Result<()>
 // The file is played in one room, as many lines a call as fit, and what each call leaves there is written. The answer is whether all was written,
 // or why not; a write that fails is the last.
 pub fn play<W: Write>(to: &mut W, file: &[u8]) -> Result<()>
-    ensures { OnOk result (Appends (W.contents to.old) (W.contents to.new) (sheet_of file.now)) }
+    ensures whole { OnOk result (Appends (W.contents to.old) (W.contents to.new) (sheet_of file.now)) }
+    ensures front { (bs : List ℕ) × StartsWith (sheet_of file.now) bs × Appends (W.contents to.old) (W.contents to.new) bs }
 {
     let mut room = [0u8; 32768];
     let mut p = player::open();

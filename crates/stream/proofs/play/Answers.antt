@@ -1,12 +1,12 @@
-use Rattle.std.proofs.Common.{◌≤◌, [], ◌∷◌, ◌++◌, arith, length, refl, sym, ap, ◌∙◌, subst}
+use Rattle.sheet.specs.Sheet.{sheet_of}
+use Rattle.std.proofs.Common.{take_all, le_refl, take, ◌≤◌, [], ◌∷◌, ◌++◌, arith, length, refl, sym, ap, ◌∙◌, subst}
 use lib.Seq.{length-take-le}
 use Rattle.std.specs.Io.KnownBytes.{Appends}
 use Rattle.std.proofs.KnownBytes.{Appends-nil, Appends-trans}
 use Rattle.player.specs.Turns.{opened}
-use Rattle.player.specs.Several.{several_of}
-use Rattle.player.specs.Sheets.{Call, none, taken, reached, playing_opened, playing_on, playing_less, several_within, several_ended}
+use Rattle.player.specs.Sheets.{Call, none, call, taken, reached, playing_opened, playing_on, playing_less, several_within, several_ended}
 use Rattle.player.specs.declared.Player.{Player}
-use Rattle.stream.proofs.Calls.{calls_more, reached_more, taken_more}
+use Rattle.stream.proofs.Calls.{calls_append, reached_append, taken_more, taken_front, front_within}
 use Rattle.stream.proofs.play.Goals as goal
 
 pub loop-p-init : goal.loop-p-init
@@ -25,6 +25,7 @@ loop-p-smaller g c =
 
 -- the call stands behind those before it, and the writer took what it left
 pub loop-p-preserved : goal.loop-p-preserved
+unfolding reached
 loop-p-preserved g c =
     let file = c.args.file.now in
     let wide : 256 ≤ length c.loop-p.room = omega (arith, c.loop-p-test.array_long) in
@@ -32,13 +33,34 @@ loop-p-preserved g c =
     let one : Call = record { before = c.loop-p.room; answered = c.several-t.result; after = c.several-t.new.room } in (
       playing_on file c.loop-p.p c.several-t.ensures wide playing,
       cs ++ one ∷ [],
-      calls_more several_of file one wide calls (rw at c.several-t.ensures),
-      reached_more several_of file one wide opened cs,
-      rw (taken_more several_of file one wide cs) (Appends-trans _ _ _ _ _ took c.in_ok-put.ensures),
+      calls_append calls (call one wide (rw at c.several-t.ensures) none),
+      reached_append opened cs (one ∷ []),
+      rw (taken_more cs one) (Appends-trans _ _ _ _ _ took c.in_ok-put.ensures.whole),
     )
 
 -- at the end what the calls left is the sheet
-pub returns : goal.returns
-returns g c =
+pub returns-clause-whole : goal.returns-clause-whole
+returns-clause-whole g c =
     let (playing, cs, calls, at, took) = c.loop-p.invariant in
     subst (Appends _ _) (several_ended c.args.file.now cs calls (ap (λ (p : Player). p.stage) at ∙ c.loop-p-test.false)) took
+
+pub returns-clause-front : goal.returns-clause-front
+returns-clause-front g c =
+    let (playing, cs, calls, at, took) = c.loop-p.invariant in
+    let all = several_ended c.args.file.now cs calls (ap (λ (p : Player). p.stage) at ∙ c.loop-p-test.false) in
+    (taken cs, rw all (take_all (length (sheet_of c.args.file.now)) (sheet_of c.args.file.now) (le_refl _)), took)
+
+-- where a write failed, what was taken of the call's part stands behind what the calls before it left
+pub returns-in_err-put-clause-front : goal.returns-in_err-put-clause-front
+unfolding reached
+returns-in_err-put-clause-front g c =
+    let file = c.args.file.now in
+    let wide : 256 ≤ length c.loop-p.room = omega (arith, c.loop-p-test.array_long) in
+    let (playing, cs, calls, at, took) = c.loop-p.invariant in
+    let one : Call = record { before = c.loop-p.room; answered = c.several-t.result; after = c.several-t.new.room } in
+    let made = calls_append calls (call one wide (rw at c.several-t.ensures) none) in
+    let on = playing_on file c.loop-p.p c.several-t.ensures wide playing in
+    let (rest, whole) = taken_front file (cs ++ one ∷ []) made (rw (reached_append opened cs (one ∷ [])) on) in
+    let part = take c.several-t.result.length c.several-t.new.room in
+    let (bs, starts, given) = c.put.ensures.front in
+    (taken cs ++ bs, front_within _ (taken cs) part rest bs (whole ∙ ap (λ l. l ++ rest) (taken_more cs one)) starts, Appends-trans _ _ _ _ _ took given)
