@@ -1,5 +1,5 @@
 -- Every played example is played as document 01 has it.
-use Rattle.std.specs.Prelude.{◌≡◌, refl, map, ◌-◌}
+use Rattle.std.specs.Prelude.{◌≡◌, refl, map}
 use Rattle.rules.specs.Computes.{computes}
 use Rattle.text.specs.Text.{onto, fields, lines, is_letter, digits, is_number, value_from, value, decimal_of, decimal, tabbed, sheet_line, commas, keys_text, keys_line}
 use Rattle.forms.specs.Form.{is_below, is_min, low_of, is_first, settings_of, settings_form, ranged, first_form, is_operation, operation_of, is_begin, is_steps, line_form}

@@ -1,13 +1,12 @@
 -- "Played examples": those marked P, A to J, in one list, and one statement about all of them. "Blanks stand for tabs."
 use Rattle.std.specs.Prelude.{cond, List, [], ◌∷◌, ◌++◌, map, ℕ, ◌-◌, eqb}
 use Prim.Native.Char.{code}
-use Prim.Native.String as String
 use Prim.Native.String.{String}
 use Rattle.keys.specs.Keys.{list_of}
 use Rattle.rules.specs.State.{zero_statistics, place_at, thread_at}
 use Rattle.rules.specs.Places.{keys_of, route_key}
 use Rattle.rules.specs.declared.state.State.{State}
-use Rattle.text.specs.Text.{tab, newline, lines}
+use Rattle.text.specs.Text.{tab, newline}
 use Rattle.forms.specs.Form.{first_form, line_form}
 use Rattle.sheet.specs.Sheet.{play_form, first_played, sheet_of}
 

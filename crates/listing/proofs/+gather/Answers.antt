@@ -1,5 +1,5 @@
 -- `listing::gather` meets its contract: at each node by what the walk finds there.
-use Rattle.std.proofs.Common.{◌<◌, ◌%◌, length, arith, rules, mod-lt}
+use Rattle.std.proofs.Common.{arith, rules, mod-lt}
 use Rattle.listing.proofs.Walk.{in_list, stays, is-again, one_left, fewer, met_right, is_base, is-route}
 use Rattle.listing.proofs.+gather.Goals as goal
 

@@ -1,7 +1,5 @@
 -- `player::lines` meets its contract. The invariant: whoever plays on behind the `used` bytes has played all behind those of `t`.
-use mathlib.Core.Bool.{true}
 use mathlib.Core.Path.{refl, sym}
-use Prim.Native.Nat.{◌-◌}
 use native.Mathlib.Omega.{arith}
 use lib.Seq.{length-take-le}
 use Rattle.text.specs.Text.{newline}
