@@ -5,13 +5,7 @@ use Rattle.graph.specs.Cases.{Test, holds, fails, test, is, is_same, is_some}
 use Rattle.graph.specs.Walk.{Cell, kid, Direction, next, Walk, here, step, walk_from, first}
 use Rattle.graph.specs.Tree.{Tree, fork, label, count, Shape, leaf, branch, label_in, Stands, top, in_l, in_r, stands, head_in, shape_same, Once, side_left, side_right}
 use Rattle.graph.specs.Slot.{Slot, turned}
-
--- t' is t with the tree b in the place of the tree a, which stands under i on side w
-pub data Graft (i : ℕ) (w : Bool) (a b : Tree) : Tree → Tree → Type 0 where
-  at_l : (o : Tree) → w ≡ false → Graft i w a b (fork i a o) (fork i b o)
-  at_r : (o : Tree) → w ≡ true → Graft i w a b (fork i o a) (fork i o b)
-  left : (n : ℕ) {l l' : Tree} (r : Tree) → Graft i w a b l l' → Graft i w a b (fork n l r) (fork n l' r)
-  right : (n : ℕ) (l : Tree) {r r' : Tree} → Graft i w a b r r' → Graft i w a b (fork n l r) (fork n l r')
+use Rattle.graph.specs.Graft.{Graft, at_l, at_r, left, right, Cut}
 
 module _ {i : ℕ} {w : Bool} {a b : Tree} where
   -- what is counted
@@ -116,14 +110,6 @@ module _ {i : ℕ} {w : Bool} {g g' : ℕ → Cell} {p z : ℕ} (s : Slot g g' i
           step n (m (walk_from (sym (side_right f t)) o)) (ap (λ (x : Cell). x.route) same_cell ∙ f.route)
           (ap (λ (x : Cell). kid (d n x.key) x) same_cell ∙ side_right f t ∙ sym (graft_label k))
       go (fails t) o m = absurd (omega (arith, c p, inner, head_in h (walk_from (sym (side_left f t)) o)))
-
--- the tree under a slot, and what any other tree in its place makes
-pub record Cut (g : ℕ → Cell) (i : ℕ) (w : Bool) (t : Tree) : Type 0 where
-  pub part : Tree
-  pub shape : Shape g part
-  pub head : label part ≡ kid w (g i)
-  pub filled : Tree → Tree
-  pub graft : (b : Tree) → Graft i w part b t (filled b)
 
 pub cut : {g : ℕ → Cell} {t : Tree} → Shape g t → (i : ℕ) → 1 ≤ count i t → (g i).route ≡ true → (w : Bool) → Cut g i w t
 cut {g} (leaf s) i j k w = absurd (true≢false (sym k ∙ ap (λ (m : ℕ). (g m).route) (is_some j) ∙ s))

@@ -8,27 +8,12 @@ use Rattle.std.proofs.lemmas.Bool.{lt-leb}
 use Rattle.keys.specs.Keys.{has}
 use Rattle.graph.specs.Cases.{Amount, none, some, amount, is, is_same, is_apart, is_some}
 use Rattle.graph.specs.Walk.{Cell, kid, Direction, by, Walk, walk_from, walk_join}
-use Rattle.graph.specs.Tree.{Tree, label, count, Shape, shape_same, Once, kid_in, label_in, tip_count, walk_in}
-use Rattle.graph.specs.Slot.{Slot, leaf, slot_route, slot_key, Child, kept, slot, child, walk_slot}
-use Rattle.graph.proofs.Graft.{graft_count, graft_label, graft_shape, graft_walk, Cut, cut}
+use Rattle.graph.specs.Tree.{Tree, label, count, shape_same, kid_in, label_in, tip_count, walk_in}
+use Rattle.graph.specs.Slot.{leaf, slot_route, slot_key, Child, kept, slot, child, walk_slot}
+use Rattle.graph.proofs.Graft.{graft_count, graft_label, graft_shape, graft_walk, cut}
+use Rattle.graph.specs.Graft.{Cut}
 use Rattle.graph.specs.Graph.{summit, hung, unmade, Graph, In, Out, Route, Good, Belongs, Moves, hung_made}
-
--- the tree z, of made nodes that are not hung, is to take the place of the base p under i on side w; the cells are then `cell`
-pub record Hangs (m : Graph) (cell : ℕ → Cell) (i : ℕ) (w : Bool) (p n : ℕ) (z : Tree) : Type 0 where
-  pub slot : Slot m.cell cell i w p n
-  pub under : In m i
-  pub base : (m.cell p).route ≡ false
-  pub head : label z ≡ n
-  pub shape : Shape m.cell z
-  pub once : Once z
-  pub loose : (x : ℕ) → 1 ≤ count x z → (m.own x ≡ hung → ⊥) × (m.own x ≡ unmade → ⊥)
-  pub small : (x : ℕ) → 1 ≤ count x z → x < summit
-  pub keys : (x : ℕ) → 1 ≤ count x z → (m.cell x).route ≡ true → (m.cell x).key < 64
-  pub rises : (x : ℕ) → 1 ≤ count x z → (m.cell x).route ≡ true → (v : Bool) → (m.cell (kid v (m.cell x))).route ≡ true → x < kid v (m.cell x)
-  pub above : i < summit → (m.cell n).route ≡ true → i < n
-  -- the keys of its routes lead to p, and in z to their route
-  pub search : (x : ℕ) → 1 ≤ count x z → (m.cell x).route ≡ true
-      → Walk m.cell (by (m.cell x).key) summit p × Walk m.cell (by (m.cell x).key) n x
+use Rattle.graph.specs.Hang.{Hangs}
 
 -- whose each node is once the nodes of z are hung
 pub hung_in : Tree → (ℕ → ℕ) → ℕ → ℕ

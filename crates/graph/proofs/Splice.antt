@@ -7,28 +7,11 @@ use Rattle.keys.specs.Keys.{has}
 use Rattle.graph.specs.Cases.{Way, onto, off, way, Same, same, apart, compared, is, is_same, is_apart, is_some}
 use Rattle.graph.specs.Walk.{Cell, kid, Direction, by, along, next, Walk, step, walk_from, walk_join, walk_turn, walk_stops, first, itself, down, walk_below}
 use Rattle.graph.specs.Tree.{Tree, label, count, Shape, leaf, branch, shape_same, kid_in, label_in, tip_count, walk_in, Through, through, sides_apart}
-use Rattle.graph.specs.Slot.{Slot, Skips, passes, ends, slot_route, slot_key, Child, kept, slot, child, walk_slot}
-use Rattle.graph.proofs.Graft.{graft_count, graft_part, graft_label, graft_shape, graft_walk, Cut, cut}
-use Rattle.graph.specs.Graph.{summit, hung, Graph, In, Route, Good, Belongs, Moves}
-
--- the child f of route p on side v is to take p's place under i on side w; p's other child is the base b; the cells are then `cell`
-pub record Splices (m : Graph) (cell : ℕ → Cell) (i : ℕ) (w : Bool) (p : ℕ) (v : Bool) (b f : ℕ) : Type 0 where
-  pub slot : Slot m.cell cell i w p f
-  pub under : In m i
-  pub route : (m.cell p).route ≡ true
-  pub node : p < summit
-  pub far : kid v (m.cell p) ≡ f
-  pub near : kid (not v) (m.cell p) ≡ b
-  pub base : (m.cell b).route ≡ false
-
--- what comes of it
-pub record Spliced (m : Graph) (cell : ℕ → Cell) (p b f : ℕ) : Type 0 where
-  pub tree : Tree
-  pub counted : (y : ℕ) → count y tree + is y p + is y b ≡ count y m.tree
-  pub good : Good (record { cell = cell; tree = tree; own = m.own })
-  pub moves : Moves m (record { cell = cell; tree = tree; own = m.own })
-  -- what led to p leads to f
-  pub leads : {d : Direction} → Walk m.cell d summit p → Walk cell d summit f
+use Rattle.graph.specs.Slot.{Skips, passes, ends, slot_route, slot_key, Child, kept, slot, child, walk_slot}
+use Rattle.graph.proofs.Graft.{graft_count, graft_part, graft_label, graft_shape, graft_walk, cut}
+use Rattle.graph.specs.Graft.{Cut}
+use Rattle.graph.specs.Graph.{summit, hung, Graph, In, Route, Good, Belongs}
+use Rattle.graph.specs.Splice.{Splices, Spliced}
 
 -- the tree under a route of which one child is a base
 record Parts (g : ℕ → Cell) (t : Tree) (f b : ℕ) : Type 0 where

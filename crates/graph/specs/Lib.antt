@@ -5,3 +5,6 @@ pub mod Tree
 pub mod Slot
 pub mod Graph
 pub mod Track
+pub mod Graft
+pub mod Hang
+pub mod Splice

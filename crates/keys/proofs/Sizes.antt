@@ -1,5 +1,5 @@
 -- How many keys a set has, its keys as a list, and its split key.
-use Rattle.std.specs.Prelude.{Bool, true, false, cond, ◌||◌, List, [], ◌∷◌, ◌≡◌, refl, ℕ, zero, suc, ◌+◌, ◌-◌, ◌*◌, ◌/◌, ◌%◌, ◌^◌, ◌<◌, ◌≤◌, ltb, eqb, length, get_or}
+use Rattle.std.specs.Prelude.{Bool, true, false, cond, List, ◌∷◌, ◌≡◌, refl, ℕ, zero, suc, ◌+◌, ◌-◌, ◌*◌, ◌/◌, ◌%◌, ◌^◌, ◌<◌, ◌≤◌, ltb, eqb, length, get_or}
 use Rattle.std.proofs.Common.{sym, ap, ◌∙◌, zero-le, suc-le-suc, mod-lt, mod-eq_of_lt, div-one, lt_trans, lt_of_not-le, add-one, arith, eq-eqb, ne_eqb, eqb-true, ltb-true, ltb-false, pow_pos, shr-shr}
 use Rattle.std.proofs.Math.Nat.{mod-one}
 use Rattle.std.proofs.lemmas.Bool.{eqb-false}
@@ -9,12 +9,11 @@ use Rattle.std.proofs.Math.Pow.{pow-lt, split}
 use Rattle.keys.proofs.Digits.{has-suc, digit_in, digit_out, key_le, with_new, without_key, mod-suc}
 use Rattle.keys.specs.Keys.{has, with, without, below, from, rising, list_of, size, split_key}
 use Rattle.keys.proofs.Laws.{has_small, has_large, has-without, with-lt, without-lt, below-lt, from-lt}
+use Rattle.keys.specs.Sizes.{is_in}
 
 -- i in front of a list where it is a key: the step of rising
 abbrev front : Bool → ℕ → List ℕ → List ℕ
 front b i r = cond b (i ∷ r) r
-
--- ---- sizes, by counting the digits that are 1
 
 -- the digits of 0
 ones-zero : ones 0 ≡ 0
@@ -92,13 +91,6 @@ size_parts m k l =
     rw (size-ones (m % 2 ^ k) (below-lt m k l), size-ones (m - m % 2 ^ k) (from-lt m k l), size-ones m l, e)
     (omega (arith, parts, high, ones-zero, ap ones (split m k)))
 
--- ---- the keys as a list
-
--- k stands in a list
-unfoldable pub is_in : ℕ → List ℕ → Bool
-is_in k [] = false
-is_in k (x ∷ xs) = eqb k x || is_in k xs
-
 -- a number before i or after the n numbers is not listed
 not-rising : (n m i k : ℕ) → (i ≤ k → i + n ≤ k) → is_in k (rising m i n) ≡ false
 unfolding is_in rising
@@ -168,8 +160,6 @@ rising-at (suc n) m i p l = go (has m i) refl p l (λ q g. earlier m i n q _ (ri
     go true h (suc p) l rest = rw h at (rest p (omega arith))
     go false h p l rest = rw h at (rest p l)
 
--- ---- the key at p of the list
-
 -- it is a key
 pub key_has : (m p : ℕ) → p < size m → has m (get_or (list_of m) p 0) ≡ true
 unfolding size list_of
@@ -215,8 +205,6 @@ key_rising m p q l g =
     let b = rising-at 64 m 0 q g in
     lt_of_not-le (λ (r : get_or (list_of m) q 0 ≤ get_or (list_of m) p 0).
     omega (arith, a.before, b.before, rising_le b.steps a.steps m 0 (omega (arith, a.place, b.place))))
-
--- ---- the split key
 
 -- the split key is a key
 pub split-has : (m : ℕ) → 1 ≤ size m → has m (split_key m) ≡ true

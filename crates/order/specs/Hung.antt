@@ -8,7 +8,8 @@ use Rattle.graph.specs.Cases.{Amount, none, some, amount, is, is_same, is_some}
 use Rattle.graph.specs.Walk.{Cell, kid, by, Walk}
 use Rattle.graph.specs.Tree.{Tree, count, kid_in, label_in}
 use Rattle.graph.specs.Graph.{summit, hung, Good, Belongs, Moves, hung_made}
-use Rattle.graph.proofs.Hang.{Hangs, hung_in, hung-out, hang, hang_belongs}
+use Rattle.graph.specs.Hang.{Hangs}
+use Rattle.graph.proofs.Hang.{hung_in, hung-out, hang, hang_belongs}
 use Rattle.order.specs.World.{cell_at, World, graph, cell, valid, hold, keys, in_tree, out_of_tree, Late}
 use Rattle.order.specs.Stages.{BaseAt, Stage}
 use Rattle.order.specs.Steady.{Safe, as_was}

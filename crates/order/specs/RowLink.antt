@@ -16,7 +16,8 @@ use Rattle.graph.specs.Walk.{by, Walk, here}
 use Rattle.graph.specs.Tree.{tip, count, leaf}
 use Rattle.graph.specs.Slot.{slot_route}
 use Rattle.graph.specs.Graph.{summit, hung_made}
-use Rattle.graph.proofs.Hang.{Hangs, hang}
+use Rattle.graph.specs.Hang.{Hangs}
+use Rattle.graph.proofs.Hang.{hang}
 use Rattle.order.specs.World.{World, graph, cell, keys, world_of, Sound}
 use Rattle.order.specs.Stages.{BaseAt, Linking, Parent}
 use Rattle.order.specs.Bridge.{thread_me, thread_other}

@@ -15,7 +15,8 @@ use Rattle.graph.specs.Walk.{Cell, kid, walk_from, first, walk_stops}
 use Rattle.graph.specs.Tree.{count, kid_in}
 use Rattle.graph.specs.Slot.{Child, kept, slot, child, slot_route, slot_key}
 use Rattle.graph.specs.Graph.{summit, Route, Moves, hung_made}
-use Rattle.graph.proofs.Splice.{Splices, splice, splice_belongs, taken_over}
+use Rattle.graph.specs.Splice.{Splices}
+use Rattle.graph.proofs.Splice.{splice, splice_belongs, taken_over}
 use Rattle.order.specs.World.{World, graph, cell, valid, hold, in_tree, out_of_tree, world_of, Sound}
 use Rattle.order.specs.Stages.{BaseAt, RouteAt, Dying, Under, Linking, Closing}
 use Rattle.order.specs.Steady.{as_was}

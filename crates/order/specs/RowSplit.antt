@@ -17,7 +17,8 @@ use Rattle.graph.specs.Walk.{kid, by, Walk, here, step}
 use Rattle.graph.specs.Tree.{Tree, tip, fork, count, leaf, branch, kid_in, Stands, top, in_l, in_r, stands}
 use Rattle.graph.specs.Slot.{slot_route}
 use Rattle.graph.specs.Graph.{summit}
-use Rattle.graph.proofs.Hang.{Hangs, hang}
+use Rattle.graph.specs.Hang.{Hangs}
+use Rattle.graph.proofs.Hang.{hang}
 use Rattle.order.specs.World.{World, graph, cell, hold, keys, in_tree, world_of, Sound}
 use Rattle.order.specs.Stages.{Splitting}
 use Rattle.order.specs.Bridge.{thread_me, thread_other}

@@ -25,15 +25,10 @@ use Rattle.order.specs.Invariant.{Invariant, after_kept, run_kept}
 use Rattle.order.proofs.Bounded.{move_kept}
 use Rattle.plain.proofs.Goes.{goes_on}
 use Rattle.plain.proofs.RunSteps.{times_last, accepts, taken, run_is-steps}
+use Rattle.plain.specs.CountedSteps.{Last}
 
 refuses : {x j a c : ℕ} → RunReply.TheVariants.Refused x ≡ RunReply.TheVariants.Ends j a c → ⊥
 refuses q = let w : ◌≡◌ {A = ℕ} 0 1 = cc in omega arith
-
--- a reply that ends an operation after k steps is that of the last of them
-pub record Last (s : State) (t k a c : ℕ) : Type 0 where
-  pub before : ℕ
-  pub count : k ≡ suc before
-  pub reply : (step_of (after_moves s (times before (steps t))) t).reply ≡ StepReply.TheVariants.Ends a c
 
 -- counted steps, where some were taken
 module _ (from : State) (t : ℕ) (l : t ≤ 7) where

@@ -28,7 +28,8 @@ use Rattle.order.specs.Fresh.{fresh-idle}
 use Rattle.order.specs.Tally.{early, thread_tally}
 use Rattle.order.specs.Invariant.{Invariant, fresh_kept, begin_kept, step_kept}
 use Rattle.plain.specs.Registers.{commit_done, step_same}
-use Rattle.plain.proofs.Log.{Outcome, takes, leaves, outcome}
+use Rattle.plain.specs.Log.{Outcome, takes, leaves}
+use Rattle.plain.proofs.Log.{outcome}
 use Rattle.plain.proofs.Goes.{goes_on, ended}
 
 -- f is how it stands by the registers of the eight threads

@@ -30,12 +30,7 @@ use Rattle.plain.specs.Commit.{agrees}
 use Rattle.plain.specs.Plain.{Plain, plain_then, fresh_plain}
 use Rattle.plain.specs.Runs.{plain_move, plain_after, move_plain}
 use Rattle.plain.specs.Registers.{commit_done, step_same, end_same}
-
--- an accepted step, or a refused one that leaves the state
-pub data Outcome (s : State) (t : ℕ) : Type 0 where
-  takes : t ≤ 7 → ((thread_at s t).phase ≡ 0 → ⊥) → accepted s t ≡ true → (step_of s t).state ≡ after s t → in_range s ≡ true
-      → (step_of s t).reply ≡ reply_of s t → Outcome s t
-  leaves : accepted s t ≡ false → (step_of s t).state ≡ s → (n : ℕ) → (step_of s t).reply ≡ StepReply.TheVariants.Refused n → Outcome s t
+use Rattle.plain.specs.Log.{Outcome, takes, leaves}
 
 pub outcome : (s : State) (t : ℕ) → Outcome s t
 unfolding step_of reply_of

@@ -10,3 +10,5 @@ pub mod Counted
 pub mod Runs
 pub mod Registers
 pub mod Longest
+pub mod Log
+pub mod CountedSteps

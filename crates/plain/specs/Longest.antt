@@ -4,7 +4,7 @@ use Rattle.rules.specs.State.{fresh}
 use Rattle.rules.specs.Computes.{computes}
 use Rattle.runs.specs.Calls.{Move, after_move, times}
 use Rattle.runs.specs.Passes.{one, takes_route, passed_by, passes, passed}
-use Rattle.runs.proofs.Instance.{plays, cross_settings, contended}
+use Rattle.runs.specs.Instance.{plays, cross_settings, contended}
 
 -- n routes with the keys 1 to n, each the right child of the one before: each key is inserted at the last base and splits it
 unfoldable pub chain : ℕ → List Move

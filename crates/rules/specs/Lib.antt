@@ -10,3 +10,4 @@ pub mod List
 pub mod Follow
 pub mod Answers
 pub mod Computes
+pub mod Trials

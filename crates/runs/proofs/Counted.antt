@@ -1,23 +1,10 @@
--- Example D once more, its step lines as counted steps: these calls come to its moves.
-use Rattle.std.specs.Prelude.{List, [], ◌∷◌, ◌≡◌, refl}
+-- The lines of specs/Counted.antt come to the moves of example D.
+use Rattle.std.specs.Prelude.{◌≡◌, refl}
 use Rattle.rules.specs.State.{fresh}
 use Rattle.rules.specs.Computes.{computes}
-use Rattle.runs.specs.Calls.{begins, after_move, times, Call, move, counted, after_call, moves_of}
-use Rattle.runs.proofs.Instance.{example_settings, plays, joins, example_d}
-
--- its lines, and two more that are refused with 10: they come to no move
-unfoldable pub lines_d : List Call
-lines_d =
-    move (begins 0 0 5) ∷ counted 0 1000
-    ∷ move (begins 0 0 9) ∷ counted 0 1000
-    ∷ move (begins 0 0 2) ∷ counted 0 1000
-    ∷ move (begins 0 2 5) ∷ counted 0 2
-    ∷ move (begins 1 0 7) ∷ counted 1 2 ∷ counted 1 0 ∷ counted 1 1 ∷ counted 1 1001
-    ∷ counted 0 1000
-    ∷ counted 1 1 ∷ counted 1 1 ∷ counted 1 1000
-    ∷ move (begins 0 2 2) ∷ counted 0 1000
-    ∷ move (begins 0 2 2) ∷ counted 0 12
-    ∷ []
+use Rattle.runs.specs.Calls.{after_move, times, after_call, moves_of}
+use Rattle.runs.specs.Instance.{example_settings, plays, joins, example_d}
+use Rattle.runs.specs.Counted.{lines_d}
 
 -- by computing
 pub lines_come_to : moves_of (fresh example_settings) lines_d ≡ example_d

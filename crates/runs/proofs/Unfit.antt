@@ -4,10 +4,7 @@ use Rattle.std.proofs.Common.{ap, arith}
 use Rattle.runs.specs.PlainSet.{empty}
 use Rattle.runs.specs.Log.{Entry, Right}
 use Rattle.runs.specs.Events.{begin, commit, finish, nothing, due, done, nothing_due, Fits}
-
--- thread 0 has inserted 5, with answer a as commit n
-abbrev pub inserted : ℕ → ℕ → Entry
-inserted a n = record { thread = 0; operation = 0; key = 5; answer = a; number = n }
+use Rattle.runs.specs.Unfit.{inserted}
 
 -- a thread begins while it has an operation
 pub begun_twice : Fits nothing_due (begin 0 0 5 ∷ begin 0 0 9 ∷ []) → ⊥

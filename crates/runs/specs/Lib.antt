@@ -5,3 +5,9 @@ pub mod Log
 pub mod Events
 pub mod Holders
 pub mod Demand
+pub mod Counted
+pub mod Counts
+pub mod Instance
+pub mod Standing
+pub mod Unfit
+pub mod Walks

@@ -1,19 +1,12 @@
 -- Whole files: demand 3 holds after the lines of a file, its sheet ends in `E` with the counts and keys of that state, and no sheet has `X 8`.
 use Rattle.std.specs.Prelude.{List, [], ◌∷◌, ◌++◌, ◌≡◌, refl, ℕ, zero, suc, ◌+◌, ◌≤◌, ◌<◌, ltb, length, get_or}
 use Rattle.std.proofs.Common.{append-nil, sym, ap, ◌∙◌, subst, arith, lt-ltb, le-ltb}
-use Rattle.keys.specs.Keys.{list_of}
 use Rattle.rules.specs.State.{fresh}
 use Rattle.rules.specs.List.{reached, key_list_of}
 use Rattle.rules.specs.Answers.{list_values}
 use Rattle.rules.specs.declared.state.Settings.{Settings}
 use Rattle.rules.specs.declared.state.State.{State}
 use Rattle.rules.specs.declared.answer.ListReply as ListReply
-use Rattle.runs.specs.Calls.{moves_of}
-use Rattle.runs.specs.PlainSet.{empty, keys_in}
-use Rattle.runs.specs.Log.{log_of, play_log}
-use Rattle.runs.specs.Events.{events_of}
-use Rattle.runs.specs.Holders.{Quiet}
-use Rattle.runs.specs.Demand.{Demand3}
 use Rattle.states.specs.Tests.{pick}
 use Rattle.order.specs.Invariant.{Invariant, fresh_kept}
 use Rattle.order.specs.Refusal.{list_not_8, list_keys}
@@ -22,29 +15,13 @@ use Rattle.text.proofs.Writing.{sheet_line-one, lines-first}
 use Rattle.forms.specs.Form.{first_form, line_form}
 use Rattle.forms.proofs.Form.{first_in_range}
 use Rattle.forms.specs.declared.First as First
-use Rattle.sheet.specs.Sheet.{refusal, play_form, end_text, end_form, play_lines, play_first, play_all, sheet_of}
-use Rattle.schedules.specs.Played.{after_lines, calls_of, sheet_lines, lines_sheet}
+use Rattle.sheet.specs.Sheet.{refusal, play_form, end_form, play_lines, play_first, play_all, sheet_of}
+use Rattle.schedules.specs.Played.{after_lines, sheet_lines, lines_sheet}
 use Rattle.schedules.proofs.Played.{schedule_demand3, sheet_ends, form_not_8, line_kept, lines_kept, lines_in_range}
 use Rattle.schedules.specs.Lines.{Shown}
 use Rattle.schedules.proofs.RefusedLines.{refused_shown}
 use Rattle.schedules.proofs.Lines.{wrote_shown, form_shown, end_shown}
-
--- ---- the sheet of a file
-
--- c: the settings in a file's first line; ls: its further lines; s: the state after them
-pub record PlayedFile (file : List ℕ) (c : Settings) (ls : List (List ℕ)) (s : State) : Type 0 where
-  -- demand 3 holds of the calls of these lines
-  pub demand : Demand3 c (calls_of ls) s (events_of (fresh c) (moves_of (fresh c) (calls_of ls))) (log_of (fresh c) (moves_of (fresh c) (calls_of ls)))
-  -- the key list of that state is not refused
-  pub list : key_list_of s ≡ ListReply.TheVariants.Keys (reached s).keys
-  -- the sheet is `R`, the sheet lines of these lines, and `E` with the counts and the keys of that state
-  pub sheet : sheet_of file ≡ sheet_line 82 [] ++ (lines_sheet (fresh c) ls ++ end_text s (list_of (reached s).keys))
-  -- these keys are those of the plain set where no thread is in phases 20 to 23
-  pub plain : Quiet s → list_of (reached s).keys ≡ keys_in (play_log empty (log_of (fresh c) (moves_of (fresh c) (calls_of ls))))
-  -- "it has one line for each schedule line, then `E`"
-  pub each : length (sheet_lines (fresh c) ls) ≡ length ls
-  pub one : (i : ℕ) → i < length ls → OneLine (get_or (sheet_lines (fresh c) ls) i [])
-  pub count : length (lines (sheet_of file)) ≡ length (lines file) + 1
+use Rattle.schedules.specs.Files.{PlayedFile, Without8}
 
 -- one sheet line for each line
 lines-each : (s : State) (ls : List (List ℕ)) → length (sheet_lines s ls) ≡ length ls
@@ -123,12 +100,6 @@ file_refused file first ls h e z = sheet_first file first ls First.TheVariants.S
 pub file_too_long : (file : List ℕ) → 60000 < length file → sheet_of file ≡ refusal 12
 unfolding sheet_of
 file_too_long file h = rw (lt-ltb 60000 (length file) h)
-
--- ---- no `X 8`
-
--- no line of a sheet, with its newline, is `X 8`
-abbrev pub Without8 : List ℕ → Type 0
-Without8 sheet = (i : ℕ) → get_or (lines sheet) i [] ++ (newline ∷ []) ≡ refusal 8 → ⊥
 
 -- where there is no line
 none_8 : Without8 []

@@ -24,7 +24,8 @@ use Rattle.states.specs.Kept.{fresh_in_range}
 use Rattle.order.specs.Refusal.{run_not_8}
 use Rattle.order.specs.Invariant.{Invariant, fresh_kept}
 use Rattle.plain.proofs.Quiet.{moves_in_range}
-use Rattle.plain.proofs.CountedSteps.{Last, run_replies, calls_kept, calls_are_moves}
+use Rattle.plain.specs.CountedSteps.{Last}
+use Rattle.plain.proofs.CountedSteps.{run_replies, calls_kept, calls_are_moves}
 use Rattle.plain.proofs.Demand.{demand3}
 use Rattle.forms.specs.Form.{line_form}
 use Rattle.forms.specs.declared.Line as Line

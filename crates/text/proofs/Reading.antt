@@ -5,8 +5,7 @@ use Rattle.std.proofs.Common.{sym, ap, ◌∙◌, zero-le, suc-le-suc, add-one, 
 use Rattle.std.proofs.Math.Dec.{leb-suc-suc}
 use Rattle.text.specs.declared.Number as Number
 use Rattle.text.specs.Text.{tab, newline, until, onto, fields, lines, digits, is_number, value_from, value, value_if, number_of, number_values, number_says}
-
--- ---- the first b
+use Rattle.text.specs.Reading.{Digit}
 
 pub until-le : (b : ℕ) (l : List ℕ) → until b l ≤ length l
 unfolding until
@@ -21,8 +20,6 @@ until-le b (x ∷ xs) = go (eqb x b) (until-le b xs)
 pub until-at : (b : ℕ) (l : List ℕ) (i : ℕ) → i < length l → until b (drop i l) ≡ cond (eqb (get_or l i 0) b) 0 (suc (until b (drop (suc i) l)))
 unfolding until
 until-at b l i h = rw (drop-cons l i 0 h)
-
--- ---- fields
 
 -- a line is its first field, and behind a tab the other fields
 pub fields-cut : (l : List ℕ) → fields l ≡ take (until tab l) l ∷ cond (ltb (until tab l) (length l)) (fields (drop (suc (until tab l)) l)) []
@@ -69,8 +66,6 @@ field-none l (suc i) k h = rw (fields-cut l, le-ltb (until tab l) (length l) (om
 pub rest_part : (n : ℕ) (l : List ℕ) → take (length l - n) (drop n l) ≡ drop n l
 rest_part n l = take_all (length l - n) (drop n l) (omega (arith, length-drop n l))
 
--- ---- lines
-
 -- a file that is not empty is its first line and the other lines
 pub lines_cut : (l : List ℕ) → 0 < length l → lines l ≡ take (until newline l) l ∷ lines (drop (suc (until newline l)) l)
 unfolding until lines onto
@@ -89,8 +84,6 @@ lines_cut (x ∷ y ∷ ys) h = go (eqb x newline) refl (lines_cut (y ∷ ys) (su
     go true e h = simp e
     go false e h = simp (e, h)
 
--- ---- numbers
-
 -- by the byte at i
 pub digits-at : (l : List ℕ) (i : ℕ) → i < length l → digits (drop i l) ≡ (leb 48 (get_or l i 0) && leb (get_or l i 0) 57 && digits (drop (suc i) l))
 unfolding digits
@@ -99,12 +92,6 @@ digits-at l i h = rw (drop-cons l i 0 h)
 pub value-at : (n : ℕ) (l : List ℕ) (i : ℕ) → i < length l → value_from n (drop i l) ≡ value_from (n * 10 + (get_or l i 0 - 48)) (drop (suc i) l)
 unfolding value_from
 value-at n l i h = rw (drop-cons l i 0 h)
-
--- a digit among digits
-pub record Digit (l : List ℕ) (i : ℕ) : Type 0 where
-  pub low : 48 ≤ get_or l i 0
-  pub high : get_or l i 0 ≤ 57
-  pub others : digits (drop (suc i) l) ≡ true
 
 pub digit_at : (l : List ℕ) (i : ℕ) → i < length l → digits (drop i l) ≡ true → Digit l i
 digit_at l i h e =
