@@ -36,7 +36,7 @@ fn is_asked<R: Env>(rt: &R) -> bool {
 }
 
 // Whether a file may refuse what was written to it as late as its close: one on a network or behind a program, and none on
-// a disk. Linux gives a file system without a disk the major number 0.
+// a disk of its own. Linux gives such file systems, and a few others, the major number 0.
 fn is_late(about: &Metadata) -> bool {
     about.is_file() && about.dev() / 256 % 4096 == 0
 }
@@ -64,10 +64,12 @@ fn write(rt: HostRuntime, schedule: &[u8]) -> Result<()> {
     settle(&rt)
 }
 
+// The system's name for a descriptor has the mode in which that is open: opened by it anew, one that is for reading alone would be written to.
 fn word_file<R: Files>(rt: &R) -> Result<R::File> {
-    match OpenOptions::new().append(true).open(rt, WORD) {
-        Err(why) if why.kind() == ErrorKind::NotFound => Err(Error::from_raw_os_error(EBADF)),
-        opened => opened,
+    match fs::symlink_metadata(rt, WORD) {
+        Ok(about) if about.mode() / 128 % 2 == 1 => OpenOptions::new().append(true).open(rt, WORD),
+        Err(why) if why.kind() != ErrorKind::NotFound => Err(why),
+        _ => Err(Error::from_raw_os_error(EBADF)),
     }
 }
 
