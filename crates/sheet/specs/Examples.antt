@@ -1,4 +1,4 @@
--- "Played examples": those marked P, A to J, in one list, and one statement about all of them. "Blanks stand for tabs."
+-- "Played examples": those marked P, A to J, in one list, and what each says; proofs/Examples.antt has one statement about all. "Blanks stand for tabs."
 use Rattle.std.specs.Prelude.{cond, List, [], ◌∷◌, ◌++◌, map, ℕ, ◌-◌, eqb}
 use Prim.Native.Char.{code}
 use Prim.Native.String.{String}

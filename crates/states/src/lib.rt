@@ -1,2 +1,2 @@
-// Theorems about the states of the machine: they are in specs/, and there is no function.
+// Theorems about the states of the machine: they are in specs/ and proofs/, and there is no function.
 #![tactic(auto)]
