@@ -1,8 +1,7 @@
 -- A tree with another tree in the place of the one under a slot.
 use Rattle.std.specs.Prelude.{Bool, true, false, ◌≡◌, ℕ}
-use Rattle.graph.specs.Cases.{is}
 use Rattle.graph.specs.Walk.{Cell, kid}
-use Rattle.graph.specs.Tree.{Tree, fork, label, Shape, stands}
+use Rattle.graph.specs.Tree.{Tree, fork, label, Shape}
 
 -- t' is t with the tree b in the place of the tree a, which stands under i on side w
 pub data Graft (i : ℕ) (w : Bool) (a b : Tree) : Tree → Tree → Type 0 where

@@ -1,10 +1,9 @@
 -- A tree of nodes that were not hung takes a base's place: the split (a route with two bases) and the link of a join (one base).
 use Rattle.std.specs.Prelude.{Bool, ◌≡◌, ℕ, ◌≤◌, ◌<◌}
 use Rattle.std.proofs.Math.Bool.{true, false}
-use Rattle.graph.specs.Cases.{is}
 use Rattle.graph.specs.Walk.{Cell, kid, by, Walk}
 use Rattle.graph.specs.Tree.{Tree, label, count, Shape, Once}
-use Rattle.graph.specs.Slot.{Slot, slot}
+use Rattle.graph.specs.Slot.{Slot}
 use Rattle.graph.specs.Graph.{summit, hung, unmade, Graph, In}
 
 -- the tree z, of made nodes that are not hung, is to take the place of the base p under i on side w; the cells are then `cell`

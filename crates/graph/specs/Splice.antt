@@ -3,7 +3,7 @@ use Rattle.std.specs.Prelude.{Bool, true, false, not, ◌≡◌, ℕ, ◌+◌, �
 use Rattle.graph.specs.Cases.{is}
 use Rattle.graph.specs.Walk.{Cell, kid, Direction, Walk}
 use Rattle.graph.specs.Tree.{Tree, count}
-use Rattle.graph.specs.Slot.{Slot, slot, child}
+use Rattle.graph.specs.Slot.{Slot}
 use Rattle.graph.specs.Graph.{summit, Graph, In, Good, Moves}
 
 -- the child f of route p on side v is to take p's place under i on side w; p's other child is the base b; the cells are then `cell`

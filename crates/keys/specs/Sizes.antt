@@ -1,5 +1,5 @@
 -- Whether a number stands in a list.
-use Rattle.std.specs.Prelude.{Bool, false, ◌||◌, List, [], ◌∷◌, ℕ, ◌-◌, eqb}
+use Rattle.std.specs.Prelude.{Bool, false, ◌||◌, List, [], ◌∷◌, ℕ, eqb}
 
 -- k stands in a list
 unfoldable pub is_in : ℕ → List ℕ → Bool

@@ -1,7 +1,7 @@
 -- The last of some counted steps, where it ends the operation.
 use Rattle.std.proofs.Math.Path.{◌≡◌}
 use Prim.Native.Nat.{ℕ, suc}
-use Rattle.rules.specs.Step.{after, ends, step_of}
+use Rattle.rules.specs.Step.{step_of}
 use Rattle.rules.specs.declared.state.State.{State}
 use Rattle.rules.specs.declared.answer.StepReply as StepReply
 use Rattle.runs.specs.Calls.{steps, after_moves, times}

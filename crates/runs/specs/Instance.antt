@@ -7,8 +7,8 @@ use Rattle.rules.specs.declared.state.State.{State}
 use Rattle.rules.specs.declared.answer.ListReply.TheVariants.{Keys}
 use Rattle.rules.specs.State.{fresh, thread_at}
 use Rattle.runs.specs.Calls.{Move, begins, steps, after_moves, times}
-use Rattle.runs.specs.Passes.{one, passed}
-use Rattle.runs.specs.PlainSet.{empty, numbers, keys_in}
+use Rattle.runs.specs.Passes.{passed}
+use Rattle.runs.specs.PlainSet.{empty, keys_in}
 use Rattle.runs.specs.Log.{Entry, play_log}
 use Rattle.runs.specs.Events.{done, nothing_due, due_after, events_of}
 use Rattle.runs.specs.Holders.{holders}

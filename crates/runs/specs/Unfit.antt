@@ -1,7 +1,6 @@
 -- A commit of thread 0, for the logs that are refused.
 use Rattle.std.specs.Prelude.{ℕ}
 use Rattle.runs.specs.Log.{Entry}
-use Rattle.runs.specs.Events.{commit}
 
 -- thread 0 has inserted 5, with answer a as commit n
 abbrev pub inserted : ℕ → ℕ → Entry

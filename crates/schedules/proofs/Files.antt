@@ -1,5 +1,5 @@
 -- Whole files: demand 3 holds after the lines of a file, its sheet ends in `E` with the counts and keys of that state, and no sheet has `X 8`.
-use Rattle.std.specs.Prelude.{List, [], ◌∷◌, ◌++◌, ◌≡◌, refl, ℕ, zero, suc, ◌+◌, ◌≤◌, ◌<◌, ltb, length, get_or}
+use Rattle.std.specs.Prelude.{List, [], ◌∷◌, ◌++◌, ◌≡◌, refl, ℕ, zero, suc, ◌≤◌, ◌<◌, ltb, length, get_or}
 use Rattle.std.proofs.Common.{append-nil, sym, ap, ◌∙◌, subst, arith, lt-ltb, le-ltb}
 use Rattle.rules.specs.State.{fresh}
 use Rattle.rules.specs.List.{reached, key_list_of}

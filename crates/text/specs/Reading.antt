@@ -1,5 +1,5 @@
 -- A digit among the bytes of a part.
-use Rattle.std.specs.Prelude.{true, List, ◌≡◌, ℕ, suc, ◌-◌, ◌≤◌, get_or, drop}
+use Rattle.std.specs.Prelude.{true, List, ◌≡◌, ℕ, suc, ◌≤◌, get_or, drop}
 use Rattle.text.specs.Text.{digits}
 
 -- a digit among digits
