@@ -3,11 +3,10 @@
 
 ghost use Rattle.std.specs.Prelude.{◌≡◌};
 ghost use Rattle.rules.specs.State.{unmade};
-ghost use Rattle.rules.specs.Refusals.{refusal_of};
-ghost use Rattle.rules.specs.Step.{fresh_order, fresh_of, begin_in, begin_order, begin_of};
-ghost use Rattle.rules.specs.Answers.{fresh_number, begin_number};
+ghost use Rattle.rules.specs.Refusals.{reply_number, refusal_of};
+ghost use Rattle.rules.specs.Step.{zero_settings, fresh_order, fresh_of, begin_in, begin_order, begin_of};
 
-use rules::answer::{Begin, BeginReply, Fresh, FreshReply};
+use rules::answer::Refusal;
 use rules::state::{Body, Lock, Place, Settings, State};
 
 // A place that is not made.
@@ -24,8 +23,8 @@ fn unmade() -> Place
     }
 }
 
-// The fresh state of a run.
-fn fresh_state(c: Settings) -> State
+// The fresh state of a run with any settings, without their range test.
+pub fn fresh_in(c: Settings) -> State
     ensures { result ≡ Rattle.rules.specs.State.fresh c }
 {
     let first = places::new_node(Body::Base { keys: 0 });
@@ -45,85 +44,67 @@ fn fresh_state(c: Settings) -> State
     }
 }
 
-// A fresh state with settings that are in range, or 2; `low` is how far min lies below 0. A refused call has the fresh state of settings 0.
-pub fn fresh(succ: u32, fail: u32, low: u32, max: u32) -> Fresh
-    ensures answer { result ≡ fresh_of (record { succ = succ; fail = fail; low = low; max = max }) }
-    ensures number { fresh_number result.reply ≡ refusal_of (fresh_order (record { succ = succ; fail = fail; low = low; max = max })) }
+// The fresh state of settings of four zeros.
+#[tactic(auto, unfolding(rules::specs::Step::zero_settings))]
+pub fn zero_state() -> State
+    ensures { result ≡ Rattle.rules.specs.State.fresh zero_settings }
 {
-    let c = Settings {
-        succ,
-        fail,
-        low,
-        max,
-    };
-    if range::settings_in_range(c) {
-        return Fresh {
-            reply: FreshReply::Made,
-            state: fresh_state(c),
-        };
-    }
-    let zero = Settings {
+    fresh_in(Settings {
         succ: 0,
         fail: 0,
         low: 0,
         max: 0,
-    };
-    Fresh {
-        reply: FreshReply::Refused { number: 2 },
-        state: fresh_state(zero),
-    }
+    })
 }
 
-fn refused_begin(s: State, number: u8) -> Begin
-    ensures { result ≡ Rattle.rules.specs.Step.refused_begin s number }
+// A fresh state with settings that are in range; `low` is how far min lies below 0.
+#[tactic(auto, unfolding(rules::specs::Step::fresh_of))]
+pub fn fresh(settings: Settings) -> Result<State, Refusal>
+    ensures answer { result ≡ fresh_of settings }
+    ensures number { reply_number result ≡ refusal_of (fresh_order settings) }
 {
-    Begin {
-        reply: BeginReply::Refused { number },
-        state: s,
+    if !range::settings_in_range(settings) {
+        return Err(Refusal::BadSettings);
     }
+    Ok(fresh_in(settings))
 }
 
 // Begin operation `o` (0 insert, 1 delete, 2 lookup) on key `k` in thread `t`, without the range test: begun goes up by one, and the thread gets
-// the operation, the key and phase 1.
+// the operation, the key and phase 1. The three numbers stay apart: each is refused for itself, and `begin_in` takes them so.
 #[tactic(auto, unfolding(rules::specs::State::thread_at, rules::specs::Step::begun))]
-pub fn begin_in(s: State, t: u32, o: u32, k: u32) -> Begin
-    ensures { result ≡ begin_in s t o k }
+pub fn begin_in(s: &mut State, t: u32, o: u32, k: u32) -> Result<(), Refusal>
+    ensures { record { reply = result; state = s.new } ≡ begin_in s.old t o k }
 {
     if 2 < o {
-        return refused_begin(s, 1);
+        return Err(Refusal::NotOfTheForms);
     }
     if 7 < t {
-        return refused_begin(s, 3);
+        return Err(Refusal::NoThread);
     }
     if 63 < k {
-        return refused_begin(s, 4);
+        return Err(Refusal::NoKey);
     }
     let i = t as usize;
-    let mut u = s;
-    let th = u.threads[i];
-    if th.phase != 0 {
-        return refused_begin(s, 5);
+    let thread = s.threads[i];
+    if thread.phase != 0 {
+        return Err(Refusal::Busy);
     }
-    let n = u.begun;
-    if 1000000 <= n {
-        return refused_begin(s, 11);
+    if 1000000 <= s.begun {
+        return Err(Refusal::AllBegun);
     }
-    let begins = registers::set_operation(o as u8, k as u8, th);
-    u.threads[i] = begins;
-    u.begun = n + 1;
-    Begin {
-        reply: BeginReply::Begun,
-        state: u,
-    }
+    s.threads[i] = registers::set_operation(o as u8, k as u8, thread);
+    s.begun += 1;
+    Ok(())
 }
 
 // Begin operation `o` on key `k` in thread `t`.
-pub fn begin(s: State, t: u32, o: u32, k: u32) -> Begin
-    ensures answer { result ≡ begin_of s t o k }
-    ensures number { begin_number result.reply ≡ refusal_of (begin_order s t o k) }
+#[tactic(auto, unfolding(rules::specs::Step::begin_of))]
+pub fn begin(s: &mut State, t: u32, o: u32, k: u32) -> Result<(), Refusal>
+    ensures answer { record { reply = result; state = s.new } ≡ begin_of s.old t o k }
+    ensures number { reply_number result ≡ refusal_of (begin_order s.old t o k) }
 {
     if !range::in_range(s) {
-        return refused_begin(s, 7);
+        return Err(Refusal::OutOfRange);
     }
     begin_in(s, t, o, k)
 }

@@ -1,4 +1,4 @@
-// The table of phases that may follow each phase: one constant, a mask for each phase.
+// The table of phases that may follow each phase: one constant, a mask for each phase, as `follow_mask` of rules has it.
 #![tactic(auto)]
 
 ghost use Rattle.std.specs.Prelude.{◌≡◌, ◌<◌};
@@ -14,11 +14,7 @@ const FOLLOW: [u32; 26] = [
 pub fn follow_mask(p: u8) -> u32
     ensures { result ≡ follow_mask p }
 {
-    let i = p as usize;
-    if i < 26 {
-        return FOLLOW[i];
-    }
-    0
+    FOLLOW.get(usize::from(p)).copied().unwrap_or(0)
 }
 
 // Phase `q` may follow phase `p`.

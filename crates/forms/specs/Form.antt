@@ -1,11 +1,10 @@
 -- "Schedule and key sheet": the forms of the schedule's lines.
-use Rattle.std.specs.Prelude.{Bool, true, cond, not, ◌&&◌, ◌||◌, List, [], ◌∷◌, ℕ, eqb, length, get_or, drop}
+use Rattle.std.specs.Prelude.{Bool, true, cond, not, ◌&&◌, ◌||◌, List, [], ◌∷◌, ℕ, eqb, length, get_or, drop, Option, Some, None}
 use Rattle.rules.specs.Range.{settings_in_range}
-use Rattle.rules.specs.Refusals.{Refusal, ◌if◌}
+use Rattle.rules.specs.Refusals.{Ground, ◌if◌}
+use Rattle.rules.specs.declared.answer.Refusal.TheVariants.{NotOfTheForms, BadSettings}
 use Rattle.rules.specs.declared.state.Settings.{Settings}
 use Rattle.text.specs.Text.{minus, fields, is_letter, is_number, value, value_if}
-use Rattle.text.specs.declared.Number.{Number}
-use Rattle.forms.specs.declared.First as First
 use Rattle.forms.specs.declared.Line as Line
 
 -- field i of some fields
@@ -25,11 +24,11 @@ unfoldable pub low_of : List ℕ → ℕ
 low_of f = cond (is_below f) (value (drop 1 f)) 0
 
 -- what a field says as a number below 0
-abbrev pub below_read : List ℕ → Number
+abbrev pub below_read : List ℕ → Option ℕ
 below_read f = value_if (is_below f) (value (drop 1 f))
 
 -- what a field says as min
-abbrev pub low_read : List ℕ → Number
+abbrev pub low_read : List ℕ → Option ℕ
 low_read f = value_if (is_min f) (low_of f)
 
 -- `R succ fail min max`
@@ -43,17 +42,17 @@ unfoldable pub settings_of : List (List ℕ) → Settings
 settings_of fs =
     record { succ = value (field fs 1); fail = value (field fs 2); low = low_of (field fs 3); max = value (field fs 4) }
 
--- a settings line, in range or not
-unfoldable pub settings_form : List (List ℕ) → First.First
-settings_form fs = cond (is_first fs) (First.TheVariants.Settings (settings_of fs)) First.TheVariants.Slip
+-- a settings line, in range or not; none is a slip
+unfoldable pub settings_form : List (List ℕ) → Option Settings
+settings_form fs = cond (is_first fs) (Some (settings_of fs)) None
 
 -- settings out of range are a slip
-unfoldable pub ranged : First.First → First.First
-ranged (First.TheVariants.Settings c) = cond (settings_in_range c) (First.TheVariants.Settings c) First.TheVariants.Slip
-ranged First.TheVariants.Slip = First.TheVariants.Slip
+unfoldable pub ranged : Option Settings → Option Settings
+ranged (Some c) = cond (settings_in_range c) (Some c) None
+ranged None = None
 
 -- a settings line in range, or a slip
-unfoldable pub first_form : List ℕ → First.First
+unfoldable pub first_form : List ℕ → Option Settings
 first_form l = ranged (settings_form (fields l))
 
 -- "op `I`, `D` or `L`"
@@ -65,7 +64,7 @@ unfoldable pub operation_of : List ℕ → ℕ
 operation_of f = cond (is_letter 73 f) 0 (cond (is_letter 68 f) 1 2)
 
 -- the operation that a field names
-abbrev pub operation_read : List ℕ → Number
+abbrev pub operation_read : List ℕ → Option ℕ
 operation_read f = value_if (is_operation f) (operation_of f)
 
 -- `B thread op key`
@@ -78,27 +77,27 @@ unfoldable pub is_steps : List (List ℕ) → Bool
 is_steps fs = eqb (length fs) 3 && is_letter 83 (field fs 0) && is_number (field fs 1) && is_number (field fs 2)
 
 -- what a line other than the first says: "Nothing else is allowed"
-unfoldable pub line_form : List ℕ → Line.Line
+unfoldable pub line_form : List ℕ → Option Line.Line
 line_form l =
     cond (is_begin (fields l))
-    (Line.TheVariants.Begin (value (field (fields l) 1)) (operation_of (field (fields l) 2)) (value (field (fields l) 3)))
-    (cond (is_steps (fields l)) (Line.TheVariants.Steps (value (field (fields l) 1)) (value (field (fields l) 2))) Line.TheVariants.Slip)
+    (Some (Line.TheVariants.Begin (value (field (fields l) 1)) (operation_of (field (fields l) 2)) (value (field (fields l) 3))))
+    (cond (is_steps (fields l)) (Some (Line.TheVariants.Steps (value (field (fields l) 1)) (value (field (fields l) 2)))) None)
 
 -- ---- document 01's number and values for each case of the two answers, and what the line says that they are
 
 -- "2 the first line is .. not a settings line in range"
-abbrev pub first_number : First.First → ℕ
-first_number (First.TheVariants.Settings c) = 0
-first_number First.TheVariants.Slip = 2
+abbrev pub first_number : Option Settings → ℕ
+first_number (Some c) = 0
+first_number None = 2
 
 -- succ, fail, how far min lies below 0, max
-abbrev pub first_values : First.First → List ℕ
-first_values (First.TheVariants.Settings c) = c.succ ∷ c.fail ∷ c.low ∷ c.max ∷ []
-first_values First.TheVariants.Slip = []
+abbrev pub first_values : Option Settings → List ℕ
+first_values (Some c) = c.succ ∷ c.fail ∷ c.low ∷ c.max ∷ []
+first_values None = []
 
 -- "2 the first line is .. not a settings line in range": not one, or not in range
-abbrev pub first_order : List ℕ → List Refusal
-first_order l = (2 if not (is_first (fields l))) ∷ (2 if not (settings_in_range (settings_of (fields l)))) ∷ []
+abbrev pub first_order : List ℕ → List Ground
+first_order l = (BadSettings if not (is_first (fields l))) ∷ (BadSettings if not (settings_in_range (settings_of (fields l)))) ∷ []
 
 -- the values of an accepted first line: `R succ fail min max`
 abbrev pub first_says : List ℕ → List ℕ
@@ -106,20 +105,20 @@ first_says l =
     value (field (fields l) 1) ∷ value (field (fields l) 2) ∷ low_of (field (fields l) 3) ∷ value (field (fields l) 4) ∷ []
 
 -- "1 a line .. is not of the forms"
-abbrev pub line_number : Line.Line → ℕ
-line_number (Line.TheVariants.Begin t o k) = 0
-line_number (Line.TheVariants.Steps t n) = 0
-line_number Line.TheVariants.Slip = 1
+abbrev pub line_number : Option Line.Line → ℕ
+line_number (Some (Line.TheVariants.Begin t o k)) = 0
+line_number (Some (Line.TheVariants.Steps t n)) = 0
+line_number None = 1
 
 -- "B thread op key", "S thread n"
-abbrev pub line_values : Line.Line → List ℕ
-line_values (Line.TheVariants.Begin t o k) = t ∷ o ∷ k ∷ []
-line_values (Line.TheVariants.Steps t n) = t ∷ n ∷ []
-line_values Line.TheVariants.Slip = []
+abbrev pub line_values : Option Line.Line → List ℕ
+line_values (Some (Line.TheVariants.Begin t o k)) = t ∷ o ∷ k ∷ []
+line_values (Some (Line.TheVariants.Steps t n)) = t ∷ n ∷ []
+line_values None = []
 
 -- "1 a line .. is not of the forms"
-abbrev pub line_order : List ℕ → List Refusal
-line_order l = (1 if not (is_begin (fields l) || is_steps (fields l))) ∷ []
+abbrev pub line_order : List ℕ → List Ground
+line_order l = (NotOfTheForms if not (is_begin (fields l) || is_steps (fields l))) ∷ []
 
 -- the values of an accepted line: `B thread op key`, else `S thread n`
 abbrev pub line_says : List ℕ → List ℕ

@@ -4,15 +4,16 @@
 ghost use Rattle.std.specs.Prelude.{◌≡◌, ◌<◌, []};
 ghost use Rattle.listing.specs.Gathered.{Counted, Gathered};
 ghost use Rattle.keys.specs.Keys.{list_of};
-ghost use Rattle.rules.specs.Refusals.{first, refusal_of};
+ghost use Rattle.rules.specs.Refusals.{first, reply_number, refusal_of};
 ghost use Rattle.rules.specs.List.{unmet, again, meets, lists, reached, list_order, key_list_of};
-ghost use Rattle.rules.specs.Answers.{list_number, list_values};
+ghost use Rattle.rules.specs.Answers.{list_values};
 
-use rules::answer::ListReply;
+use rules::answer::Refusal;
 use rules::list::Met;
 use rules::state::{Body, Place, State};
 
 // Nothing is met yet.
+#[tactic(auto, unfolding(rules::specs::List::unmet))]
 fn unmet() -> Met
     ensures { result ≡ unmet }
 {
@@ -25,41 +26,40 @@ fn unmet() -> Met
 }
 
 // A node was met a second time.
+#[tactic(auto, unfolding(rules::specs::List::again))]
 fn again(m: Met) -> Met
     ensures { result ≡ again m }
 {
-    let mut u = m;
-    u.twice = true;
-    u
+    Met { twice: true, ..m }
 }
 
 // Node `n` is met for the first time.
+#[tactic(auto, unfolding(rules::specs::List::meets))]
 fn meets(n: u8, m: Met) -> Met
     requires { (n < 128) × (0 < m.left) }
     ensures { result ≡ meets n m }
 {
-    let left = m.left - 1;
-    let i = n as usize;
-    let mut u = m;
-    u.seen[i] = true;
-    u.left = left;
-    u
+    let mut met = m;
+    met.seen[n as usize] = true;
+    met.left -= 1;
+    met
 }
 
 // The keys of a base are listed.
+#[tactic(auto, unfolding(rules::specs::List::lists))]
 fn lists(keys: u64, m: Met) -> Met
     ensures { result ≡ lists keys m }
 {
-    let all = keys::union(m.keys, keys);
-    let mut u = m;
-    u.keys = all;
-    u
+    Met {
+        keys: keys::union(m.keys, keys),
+        ..m
+    }
 }
 
 // The walk at node `n`.
-fn gather(places: [Place; 128], n: u8, m: Met) -> Met
+fn gather(places: &[Place; 128], n: u8, m: Met) -> Met
     requires { Counted m }
-    ensures { Gathered places n m result }
+    ensures { Gathered places.now n m result }
 {
     if m.twice {
         return m;
@@ -70,38 +70,32 @@ fn gather(places: [Place; 128], n: u8, m: Met) -> Met
         return again(m);
     }
     let met = meets(at, m);
-    let p = places[i];
-    let b = p.body;
-    match b {
+    match places[i].body {
         Body::Base { keys } => lists(keys, met),
-        Body::Route {
-            key: _,
-            left,
-            right,
-        } => gather(places, right, gather(places, left, met)),
+        Body::Route { left, right, .. } => gather(places, right, gather(places, left, met)),
     }
 }
 
 // What the walk from the root has met.
-fn reached(s: State) -> Met
-    ensures { result ≡ reached s }
+fn reached(s: &State) -> Met
+    ensures { result ≡ reached s.now }
 {
-    let places = s.places;
-    gather(places, s.root, unmet())
+    gather(&s.places, s.root, unmet())
 }
 
 // The keys of the bases reachable from the root.
-pub fn key_list(s: State) -> ListReply
-    ensures answer { result ≡ key_list_of s }
-    ensures number { list_number result ≡ refusal_of (list_order s) }
-    ensures values { list_values result ≡ first (list_order s) (λ n. []) (list_of (reached s).keys) }
+#[tactic(auto, unfolding(rules::specs::List::key_list_of))]
+pub fn key_list(s: &State) -> Result<u64, Refusal>
+    ensures answer { result ≡ key_list_of s.now }
+    ensures number { reply_number result ≡ refusal_of (list_order s.now) }
+    ensures values { list_values result ≡ first (list_order s.now) (λ n. []) (list_of (reached s.now).keys) }
 {
     if !range::in_range(s) {
-        return ListReply::Refused { number: 7 };
+        return Err(Refusal::OutOfRange);
     }
     let m = reached(s);
     if m.twice {
-        return ListReply::Refused { number: 8 };
+        return Err(Refusal::Stuck);
     }
-    ListReply::Keys { keys: m.keys }
+    Ok(m.keys)
 }

@@ -2,6 +2,7 @@
 ghost use Rattle.std.specs.Prelude.{◌≡◌};
 ghost use Rattle.rules.specs.Places.{taken, released};
 
+use crate::lock::NOBODY;
 use rules::state::Lock;
 
 // Taking writes who holds the lock, and the statistics that its phase computed.
@@ -16,5 +17,5 @@ pub fn take(l: &mut Lock, me: u8, n: u32)
 pub fn release(l: &mut Lock)
     ensures { l.new ≡ released l.old }
 {
-    l.holder = 8;
+    l.holder = NOBODY;
 }

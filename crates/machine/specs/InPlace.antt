@@ -1,9 +1,9 @@
 -- A step in place: the places are loaded and stored one by one, and where nothing is stored the old place is put back.
-use Rattle.std.specs.Prelude.{◌≡◌, refl, Bool, true, false, cond, List, ℕ, ◌%◌, ltb, get_or, set}
-use Rattle.std.proofs.Common.{◌∙◌, mod-eq_of_lt, ltb-true}
+use Rattle.std.specs.Prelude.{◌≡◌, refl, false, List, ℕ, get_or, set, Option, Some, None}
+use Rattle.std.proofs.Common.{◌∙◌}
 use Rattle.std.proofs.Math.Path.{ap}
 use Rattle.std.proofs.lemmas.List.{set-get_or}
-use Rattle.rules.specs.State.{none, zero_place, place_at}
+use Rattle.rules.specs.State.{zero_place, place_at}
 use Rattle.rules.specs.Rows.{plan_of}
 use Rattle.rules.specs.Needs.{stuck}
 use Rattle.rules.specs.Step.{view_before, next_of, reaching, view_of, put, apply, after}
@@ -14,29 +14,32 @@ use Rattle.rules.specs.declared.row.Plan.{Plan}
 use Rattle.machine.specs.Commits.{can_commit, Planned}
 
 -- the place at a store's number after it: the stored one or, where nothing is stored, the old one
-abbrev pub stored : Store → Place → Place
-stored w old = cond (ltb w.at none) w.place old
+abbrev pub stored : Option Store → Place → Place
+stored None old = old
+stored (Some w) old = w.place
 
--- the place that a store finds; where nothing is stored, some place
-abbrev pub found : Store → List Place → Place
-found w ps = get_or ps (w.at % 128) zero_place
+-- the number that a store names; where nothing is stored, some number
+abbrev pub named : Option Store → ℕ
+named None = 0
+named (Some w) = w.at
+
+-- the place that a store finds
+abbrev pub found : Option Store → List Place → Place
+found a ps = get_or ps (named a) zero_place
 
 -- the places with p there
-abbrev pub placed : Store → Place → List Place → List Place
-placed w p ps = set ps (w.at % 128) p
+abbrev pub placed : Option Store → Place → List Place → List Place
+placed a p ps = set ps (named a) p
 
 -- putting back what was there is no store
-store_is-put : (w : Store) (ps : List Place) → placed w (stored w (found w ps)) ps ≡ put w ps
+store_is-put : (a : Option Store) (ps : List Place) → placed a (stored a (found a ps)) ps ≡ put a ps
 unfolding put
-store_is-put w ps = go (ltb w.at none) refl
-  where
-    go : (b : Bool) → ltb w.at none ≡ b → placed w (cond b w.place (found w ps)) ps ≡ cond b (set ps w.at w.place) ps
-    go true e = rw (mod-eq_of_lt (ltb-true w.at none e))
-    go false e = set-get_or ps (w.at % 128) zero_place
+store_is-put None ps = set-get_or ps 0 zero_place
+store_is-put (Some w) ps = refl
 
 -- over places that are those of the stores before
-is-put : (w : Store) (p : Place) (ps qs : List Place) → ps ≡ qs → p ≡ stored w (found w ps) → placed w p ps ≡ put w qs
-is-put w p ps qs e f = ap (λ (x : Place). placed w x ps) f ∙ store_is-put w ps ∙ ap (put w) e
+is-put : (a : Option Store) (p : Place) (ps qs : List Place) → ps ≡ qs → p ≡ stored a (found a ps) → placed a p ps ≡ put a qs
+is-put a p ps qs e f = ap (λ (x : Place). placed a x ps) f ∙ store_is-put a ps ∙ ap (put a) e
 
 -- the state with these places and the rest of thread t's plan
 abbrev pub written : State → ℕ → Plan → List Place → State

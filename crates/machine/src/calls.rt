@@ -1,23 +1,14 @@
 // One step of a thread. It leaves the state as it came where it refuses.
 ghost use Rattle.std.specs.Prelude.{◌≡◌, []};
-ghost use Rattle.rules.specs.Refusals.{first, refusal_of};
+ghost use Rattle.rules.specs.Refusals.{first, reply_number, refusal_of};
 ghost use Rattle.rules.specs.Step.{step_order, step_of};
-ghost use Rattle.rules.specs.Answers.{step_number, step_values, step_says};
+ghost use Rattle.rules.specs.Answers.{step_values, step_says};
 
 use crate::view;
 use rows::phase;
-use rules::answer::{Step, StepReply};
+use rules::answer::{Refusal, StepReply};
 use rules::row::Plan;
 use rules::state::{State, Thread};
-
-fn refused_step(s: State, number: u8) -> Step
-    ensures { result ≡ Rattle.rules.specs.Step.refused_step s number }
-{
-    Step {
-        reply: StepReply::Refused { number },
-        state: s,
-    }
-}
 
 // What a step answers: the phase that it goes to, or how the operation ends.
 fn reply_of(t: Thread, p: Plan) -> StepReply
@@ -35,29 +26,26 @@ fn reply_of(t: Thread, p: Plan) -> StepReply
 }
 
 // The next step of thread `t`.
-pub fn step(s: State, t: u32) -> Step
-    ensures answer { result ≡ step_of s t }
-    ensures number { step_number result.reply ≡ refusal_of (step_order s t) }
-    ensures values { step_values result.reply ≡ first (step_order s t) (λ n. []) (step_says s t) }
+pub fn step(s: &mut State, t: u32) -> Result<StepReply, Refusal>
+    ensures answer { record { reply = result; state = s.new } ≡ step_of s.old t }
+    ensures number { reply_number result ≡ refusal_of (step_order s.old t) }
+    ensures values { step_values result ≡ first (step_order s.old t) (λ n. []) (step_says s.old t) }
 {
     if !range::in_range(s) {
-        return refused_step(s, 7);
+        return Err(Refusal::OutOfRange);
     }
     if 7 < t {
-        return refused_step(s, 3);
+        return Err(Refusal::NoThread);
     }
-    let i = t as usize;
-    let th = s.threads[i];
-    if th.phase == 0 {
-        return refused_step(s, 6);
+    let thread = s.threads[t as usize];
+    if thread.phase == 0 {
+        return Err(Refusal::Idle);
     }
     let v = view::view(s, t);
     if ready::stuck(v) {
-        return refused_step(s, 8);
+        return Err(Refusal::Stuck);
     }
-    let p = phase::plan_of(v);
-    Step {
-        reply: reply_of(th, p),
-        state: view::apply(s, t, p),
-    }
+    let plan = phase::plan_of(v);
+    view::apply(s, t, plan);
+    Ok(reply_of(thread, plan))
 }

@@ -1,115 +1,72 @@
 // From the state to what a step reads, and from its plan back to the state.
 ghost use Rattle.std.specs.Prelude.{◌≡◌, ◌<◌};
-ghost use Rattle.rules.specs.State.{zero_place, place_at};
-ghost use Rattle.rules.specs.Step.{view_before, view_of, put, apply};
-ghost use Rattle.machine.specs.InPlace.{stored};
+ghost use Rattle.rules.specs.State.{place_at};
+ghost use Rattle.rules.specs.Step.{view_of, put};
 
 use rows::phase;
 use rules::row::{Plan, Store, View};
-use rules::state::{Body, Lock, Place, State};
+use rules::state::{Place, State};
 
-// What an index past the end reads, and what no row looks at.
-pub(crate) fn zero_place() -> Place
-    ensures { result ≡ zero_place }
+// The place of the node that a register names; of a register that is none, some place.
+#[tactic(auto, unfolding(rules::specs::State::place_at))]
+fn place_at(s: &State, n: u8) -> Place
+    ensures { result ≡ place_at s.now n }
 {
-    Place {
-        lock: Lock {
-            holder: 0,
-            statistics: 0,
-        },
-        valid: false,
-        body: Body::Base { keys: 0 },
-    }
+    s.places[(n % 128) as usize]
 }
 
-// What the step of thread `t` reads, but for the node that it walks to.
-fn look(s: State, t: u32) -> View
+// What the step of thread `t` reads. The node that it walks to follows from the rest; until then the root stands for it.
+#[tactic(auto, unfolding(rules::specs::Step::view_of, rules::specs::Step::view_before, rules::specs::Step::next_of, rules::specs::State::thread_at))]
+pub(crate) fn view(s: &State, t: u32) -> View
     requires { t < 8 }
-    ensures { result ≡ view_before s t }
+    ensures { result ≡ view_of s.now t }
 {
-    let i = t as usize;
-    let thread = s.threads[i];
-    let settings = s.settings;
-    let p = (thread.prev % 128) as usize;
-    let b = (thread.base % 128) as usize;
-    let w = (thread.walk % 128) as usize;
-    let n = (thread.neighbour % 128) as usize;
-    let g = (thread.grandparent % 128) as usize;
-    let o = (thread.made % 128) as usize;
-    View {
+    let thread = s.threads[t as usize];
+    let before = View {
         me: t as u8,
         thread,
-        settings,
+        settings: s.settings,
         root: s.root,
         made: s.made,
         begun: s.begun,
         committed: s.committed,
-        prev: s.places[p],
-        base: s.places[b],
-        walk: s.places[w],
-        neighbour: s.places[n],
-        grandparent: s.places[g],
-        own: s.places[o],
-        reached: zero_place(),
+        prev: place_at(s, thread.prev),
+        base: place_at(s, thread.base),
+        walk: place_at(s, thread.walk),
+        neighbour: place_at(s, thread.neighbour),
+        grandparent: place_at(s, thread.grandparent),
+        own: place_at(s, thread.made),
+        reached: place_at(s, s.root),
+    };
+    View {
+        reached: place_at(s, phase::next(before)),
+        ..before
     }
 }
 
-// What the step of thread `t` reads.
-pub(crate) fn view(s: State, t: u32) -> View
-    requires { t < 8 }
-    ensures { result ≡ view_of s t }
+// A place is stored, if there is one to be stored.
+#[tactic(auto, unfolding(rules::specs::Step::put))]
+fn store(places: &mut [Place; 128], a: Option<Store>)
+    ensures { places.new ≡ put a places.old }
 {
-    let mut v = look(s, t);
-    let n = phase::next(v);
-    let i = (n % 128) as usize;
-    let p = s.places[i];
-    v.reached = p;
-    v
-}
-
-// The place at a store's number after it: the stored one or, where nothing is stored, the old one.
-pub(crate) fn stored(w: Store, old: Place) -> Place
-    ensures { result ≡ stored w old }
-{
-    if w.at < 128 {
-        let place = w.place;
-        return place;
+    if let Some(Store { at, place }) = a {
+        if at < 128 {
+            places[at as usize] = place;
+        }
     }
-    old
 }
 
 // The state after the plan of thread `t`'s step.
-pub(crate) fn apply(s: State, t: u32, p: Plan) -> State
+#[tactic(auto, unfolding(rules::specs::Step::apply))]
+pub(crate) fn apply(s: &mut State, t: u32, p: Plan)
     requires { t < 8 }
-    ensures { result ≡ apply s t p }
+    ensures { s.new ≡ Rattle.rules.specs.Step.apply s.old t p }
 {
-    let mut u = s;
-    let a = p.first;
-    let i = a.at;
-    if i < 128 {
-        let n = i as usize;
-        let x = a.place;
-        u.places[n] = x;
-    }
-    let b = p.second;
-    let j = b.at;
-    if j < 128 {
-        let n = j as usize;
-        let x = b.place;
-        u.places[n] = x;
-    }
-    let c = p.third;
-    let k = c.at;
-    if k < 128 {
-        let n = k as usize;
-        let x = c.place;
-        u.places[n] = x;
-    }
-    let thread = p.thread;
-    let n = t as usize;
-    u.threads[n] = thread;
-    u.root = p.root;
-    u.made = p.made;
-    u.committed = p.committed;
-    u
+    store(&mut s.places, p.first);
+    store(&mut s.places, p.second);
+    store(&mut s.places, p.third);
+    s.threads[t as usize] = p.thread;
+    s.root = p.root;
+    s.made = p.made;
+    s.committed = p.committed;
 }

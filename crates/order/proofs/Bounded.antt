@@ -11,15 +11,11 @@ use Rattle.rules.specs.Places.{is_route}
 use Rattle.rules.specs.Range.{in_range}
 use Rattle.rules.specs.Rows.{plan_of}
 use Rattle.rules.specs.Needs.{route, stuck}
-use Rattle.rules.specs.Step.{begun, begin_of, view_of, after, ends, reply_of, step_of}
-use Rattle.rules.specs.Answers.{step_number}
+use Rattle.rules.specs.Step.{begun, begin_of, view_of, after, step_of, Replied}
 use Rattle.rules.specs.declared.state.Settings.{Settings}
 use Rattle.rules.specs.declared.state.Thread.{Thread}
 use Rattle.rules.specs.declared.state.State.{State}
-use Rattle.rules.specs.declared.answer.Begin.{Begin}
-use Rattle.rules.specs.declared.answer.Step.{Step}
-use Rattle.rules.specs.declared.answer.StepReply as StepReply
-use Rattle.states.specs.Tests.{both, pick-by, pick}
+use Rattle.states.specs.Tests.{both, pick-by}
 use Rattle.graph.specs.Cases.{Same, same, apart, compared}
 use Rattle.graph.specs.Count.{routes, routes-next, routes_upto, routes_grow}
 use Rattle.graph.specs.Graph.{summit}
@@ -31,6 +27,8 @@ use Rattle.order.specs.Nodes.{after_nodes}
 use Rattle.order.specs.Invariant.{Invariant, fresh_kept, after_kept, begin_kept, step_kept}
 use Rattle.order.proofs.Room.{room}
 use Rattle.order.specs.WalkRows.{leaves_off, walk_rises, walk_route, given-route}
+use Rattle.rules.specs.declared.answer.StepReply.{StepReply}
+use Rattle.rules.specs.Refusals.{reply_number}
 
 -- n routes are passed so far: no more than there are up to the walk register's, while the walk goes on
 record Bound (s : State) (t n : ℕ) : Type 0 where
@@ -135,12 +133,8 @@ refused_bound m b false = b
 
 -- an accepted step counts for its own thread
 accepted_bound : {s : State} → Invariant s → (t u : ℕ) {n : ℕ} → u ≤ 7 → Bound s t n
-    → Bound (after s u) t (cond (eqb u t && eqb (step_number (reply_of s u)) 0) (passed_by s t n) n)
-unfolding reply_of
-accepted_bound {s} i t u {n} l b =
-    let e : eqb (step_number (reply_of s u)) 0 ≡ true =
-    pick (λ (z : StepReply.StepReply). eqb (step_number z) 0 ≡ true) (ends (thread_at s u)) refl refl in
-    rw e (go (eqb u t) (eqb-true u t) (eqb-false u t))
+    → Bound (after s u) t (cond (eqb u t && true) (passed_by s t n) n)
+accepted_bound {s} i t u {n} l b = go (eqb u t) (eqb-true u t) (eqb-false u t)
   where
     go : (a : Bool) → (a ≡ true → u ≡ t) → (a ≡ false → u ≡ t → ⊥) → Bound (after s u) t (cond (a && true) (passed_by s t n) n)
     go true x y = let q = x refl in rw q (moves i (rw q at l) b)
@@ -150,7 +144,7 @@ accepted_bound {s} i t u {n} l b =
 move_bound : {s : State} → Invariant s → (t : ℕ) {n : ℕ} → Bound s t n → (c : Move) → Bound (after_move s c) t (passes t s c n)
 unfolding after_move passes begin_of step_of
 move_bound {s} i t {n} b (begins u o k) =
-    let Q : Begin → Type 0 = λ z. Bound z.state t n in
+    let Q : Replied (Unit {0}) → Type 0 = λ z. Bound z.state t n in
     pick-by Q (not (in_range s)) (λ e. b) λ r.
     pick-by Q (ltb 2 o) (λ e. b) λ x.
     pick-by Q (ltb 7 u) (λ e. b) λ l.
@@ -158,7 +152,7 @@ move_bound {s} i t {n} b (begins u o k) =
     pick-by Q (not (eqb (thread_at s u).phase 0)) (λ e. b) λ d.
     pick-by Q (leb 1000000 s.begun) (λ e. b) λ g. begun_bound i t u o k (ltb-false 7 u l) b
 move_bound {s} i t {n} b (steps u) =
-    let Q : Step → Type 0 = λ z. Bound z.state t (cond (eqb u t && eqb (step_number z.reply) 0) (passed_by s t n) n) in
+    let Q : Replied StepReply → Type 0 = λ z. Bound z.state t (cond (eqb u t && eqb (reply_number z.reply) 0) (passed_by s t n) n) in
     pick-by Q (not (in_range s)) (λ e. refused_bound (passed_by s t n) b (eqb u t)) λ r.
     pick-by Q (ltb 7 u) (λ e. refused_bound (passed_by s t n) b (eqb u t)) λ l.
     pick-by Q (eqb (thread_at s u).phase 0) (λ e. refused_bound (passed_by s t n) b (eqb u t)) λ d.

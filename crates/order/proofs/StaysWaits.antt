@@ -11,11 +11,9 @@ use Rattle.rules.specs.State.{thread_at}
 use Rattle.rules.specs.Rows.{plan_of}
 use Rattle.rules.specs.Needs.{stuck}
 use Rattle.rules.specs.Range.{in_range}
-use Rattle.rules.specs.Step.{view_before, view_of, after, step_of}
-use Rattle.rules.specs.Answers.{step_number}
+use Rattle.rules.specs.Step.{view_before, view_of, after, step_of, Replied}
 use Rattle.rules.specs.declared.state.Thread.{Thread}
 use Rattle.rules.specs.declared.state.State.{State}
-use Rattle.rules.specs.declared.answer.Step.{Step}
 use Rattle.states.specs.Tests.{pick-by}
 use Rattle.states.specs.Facts.{facts}
 use Rattle.states.specs.Waits.{waits}
@@ -24,6 +22,8 @@ use Rattle.order.specs.Bridge.{thread_after}
 use Rattle.order.specs.Invariant.{Invariant}
 use Rattle.order.specs.WalkRows.{walk_rises, walk_route}
 use Rattle.order.proofs.Stays.{stays_at}
+use Rattle.rules.specs.declared.answer.StepReply.{StepReply}
+use Rattle.rules.specs.Refusals.{reply_number}
 
 module _ {s : State} (i : Invariant s) {t : ℕ} (l : t ≤ 7) (e : after s t ≡ s) where
   -- a walk that goes on comes to a greater route, or to a base and then to another phase
@@ -47,10 +47,10 @@ module _ {s : State} (i : Invariant s) {t : ℕ} (l : t ≤ 7) (e : after s t �
       ⊎_elim (λ w. w) (λ a. absurd (no_walk a)) (stays_at (view_of s t) same m h)
 
 -- an accepted step that leaves the state as it was waits, at 4, 13 or 17, for a lock that is held
-pub stays_waits : {s : State} → Invariant s → (t : ℕ) → step_number (step_of s t).reply ≡ 0 → (step_of s t).state ≡ s → waits (view_of s t) ≡ true
+pub stays_waits : {s : State} → Invariant s → (t : ℕ) → reply_number (step_of s t).reply ≡ 0 → (step_of s t).state ≡ s → waits (view_of s t) ≡ true
 unfolding step_of
 stays_waits {s} i t =
-    let Q : Step → Type 0 = λ b. step_number b.reply ≡ 0 → b.state ≡ s → waits (view_of s t) ≡ true in
+    let Q : Replied StepReply → Type 0 = λ b. reply_number b.reply ≡ 0 → b.state ≡ s → waits (view_of s t) ≡ true in
     pick-by Q (not (in_range s)) (λ a n e. absurd (omega arith)) λ r.
     pick-by Q (ltb 7 t) (λ a n e. absurd (omega arith)) λ l.
     pick-by Q (eqb (thread_at s t).phase 0) (λ a n e. absurd (omega arith)) λ b.

@@ -1,7 +1,7 @@
 -- From the state and what a step reads of it to cells.
-use Rattle.std.specs.Prelude.{Bool, true, false, cond, not, List, ◌≡◌, refl, ℕ, ◌≤◌, ◌<◌, ltb, get_or, set, length}
-use Rattle.std.proofs.Common.{sym, ap, ◌∙◌, mod-eq_of_lt, arith, length-set, get_or-set_same, get_or-set_other, lt-ltb}
-use Rattle.rules.specs.State.{none, zero_place, zero_thread, place_at, thread_at}
+use Rattle.std.specs.Prelude.{Bool, true, false, not, List, ◌≡◌, refl, ℕ, ◌≤◌, ◌<◌, ltb, get_or, length}
+use Rattle.std.proofs.Common.{sym, ap, ◌∙◌, mod-eq_of_lt, arith, get_or-set_same, get_or-set_other, lt-ltb}
+use Rattle.rules.specs.State.{zero_place, zero_thread, place_at, thread_at}
 use Rattle.rules.specs.Places.{is_route, is_route_body, route_key, route_key_of_body, child_on, child_on_body, child_by}
 use Rattle.rules.specs.Rows.{at, rows, row0, plan_of}
 use Rattle.rules.specs.Step.{put, apply, view_before, view_of, after}
@@ -9,7 +9,6 @@ use Rattle.rules.specs.declared.state.Body.{Body}
 use Rattle.rules.specs.declared.state.Body.TheVariants.{Base, Route}
 use Rattle.rules.specs.declared.state.Place.{Place}
 use Rattle.rules.specs.declared.state.State.{State}
-use Rattle.rules.specs.declared.row.Store.{Store}
 use Rattle.rules.specs.declared.row.Plan.{Plan}
 use Rattle.states.specs.Phase.{row_at}
 use Rattle.graph.specs.Walk.{Cell, kid, by, next}
@@ -81,20 +80,8 @@ thread_row s me e l n q = thread_after s me e l ∙ ap (λ (p : Plan). p.thread)
 
 pub put_new : (ps : List Place) (n : ℕ) (p : Place) → length ps ≡ 128 → n < summit → get_or (put (at n p) ps) n zero_place ≡ p
 unfolding put
-put_new ps n p e l = rw (lt-ltb n none l) (get_or-set_same ps n p zero_place (omega arith))
+put_new ps n p e l = get_or-set_same ps n p zero_place (omega arith)
 
 pub put_old : (ps : List Place) (n : ℕ) (p : Place) (x : ℕ) → (x ≡ n → ⊥) → get_or (put (at n p) ps) x zero_place ≡ get_or ps x zero_place
 unfolding put
-put_old ps n p x h = go (ltb n none)
-  where
-    go : (b : Bool) → get_or (cond b (set ps n p) ps) x zero_place ≡ get_or ps x zero_place
-    go true = get_or-set_other ps n x p zero_place h
-    go false = refl
-
-pub put-length : (w : Store) (ps : List Place) → length (put w ps) ≡ length ps
-unfolding put
-put-length w ps = go (ltb w.at none)
-  where
-    go : (b : Bool) → length (cond b (set ps w.at w.place) ps) ≡ length ps
-    go true = length-set ps w.at w.place
-    go false = refl
+put_old ps n p x h = get_or-set_other ps n x p zero_place h

@@ -9,12 +9,11 @@ use Rattle.std.proofs.lemmas.Bool.{not-false}
 use Rattle.rules.specs.State.{zero_thread, fresh, thread_at}
 use Rattle.rules.specs.Registers.{set_operation}
 use Rattle.rules.specs.Rows.{plan_of}
-use Rattle.rules.specs.Step.{begun, begin_of, view_of, put, apply, after, step_of, run_of}
+use Rattle.rules.specs.Step.{begun, begin_of, view_of, put, apply, after, step_of, run_of, Replied}
 use Rattle.rules.specs.declared.state.Settings.{Settings}
 use Rattle.rules.specs.declared.state.State.{State}
-use Rattle.rules.specs.declared.answer.Begin.{Begin}
 use Rattle.states.specs.Calls.{begin_by, step_state, run_state}
-use Rattle.order.specs.Bridge.{put-length}
+use Rattle.states.specs.Lists.{length-put}
 use Rattle.order.specs.World.{world_of}
 use Rattle.order.specs.Steady.{Safe}
 use Rattle.order.specs.Ordered.{Ordered}
@@ -44,8 +43,8 @@ module _ {s : State} (i : Invariant s) where
       let n = after_nodes i.nodes i.threads i.places l in
       record {
         places =
-            put-length p.third (put p.second (put p.first s.places)) ∙ put-length p.second (put p.first s.places)
-            ∙ put-length p.first s.places
+            length-put p.third (put p.second (put p.first s.places)) ∙ length-put p.second (put p.first s.places)
+            ∙ length-put p.first s.places
             ∙ i.places;
         threads = length-set s.threads t p.thread ∙ i.threads;
         nodes = record { tree = n.tree; own = n.own; safe = n.safe };
@@ -75,7 +74,7 @@ module _ {s : State} (i : Invariant s) where
   -- begin keeps it, whatever the numbers, accepted or refused
   pub begin_kept : (t o k : ℕ) → Invariant (begin_of s t o k).state
   begin_kept t o k =
-      begin_by (λ (b : Begin). Invariant b.state) s t o k (λ n. i) λ h.
+      begin_by (λ (b : Replied (Unit {0})). Invariant b.state) s t o k (λ n. i) λ h.
       begun_kept t o k (ltb-false 7 t h.1.1.0) (ltb-false 63 k h.1.1.1.0)
       (eqb-true (thread_at s t).phase 0 (not-false _ h.1.1.1.1.0))
 

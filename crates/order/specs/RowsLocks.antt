@@ -14,13 +14,14 @@ use Rattle.rules.specs.declared.state.State.{State}
 use Rattle.rules.specs.declared.row.Plan.{Plan}
 use Rattle.graph.specs.Cases.{Same, same, apart, compared}
 use Rattle.graph.specs.Graph.{summit}
+use Rattle.states.specs.Lists.{length-put}
 use Rattle.order.specs.World.{World, cell, hold, world_of, Sound}
 use Rattle.order.specs.Stages.{Stage, Taken, Ready, Linking, Closing}
 use Rattle.order.specs.Change.{Change}
 use Rattle.order.specs.Survive.{holding, pairing, holding_of}
 use Rattle.order.specs.SurviveLink.{linking, closing}
 use Rattle.order.specs.Steady.{Any, calm}
-use Rattle.order.specs.Bridge.{place_at_lem, put_new, put_old, put-length}
+use Rattle.order.specs.Bridge.{place_at_lem, put_new, put_old}
 use Rattle.order.specs.Ordered.{Ordered, Stepped}
 use Rattle.order.specs.Quiet.{Quiet, quiet_calm, Touch, stays, frees, fades, quiet_row, self, one_change, one_row, own_touch}
 use Rattle.order.specs.AtPhase.{at_phase_lem}
@@ -52,7 +53,7 @@ module _ {s : State} (r : Ordered s) (size : length s.threads ≡ 8) (room : len
       → (x : ℕ) → ((x ≡ b → ⊥) → (x ≡ a → ⊥) → R x (old x) (old x))
       → R x (old x) (get_or (put (at b (g (place_at s b))) (put (at a (f (place_at s a))) s.places)) x zero_place)
   two R a b f g la lb ra rb x h =
-      put-each R old (put (at a (f (place_at s a))) s.places) b (g (place_at s b)) (put-length (at a (f (place_at s a))) s.places ∙ room) lb
+      put-each R old (put (at a (f (place_at s a))) s.places) b (g (place_at s b)) (length-put (at a (f (place_at s a))) s.places ∙ room) lb
       (rw (place_at_lem s b lb) rb) x (λ u. put-each R old s.places a (f (place_at s a)) room la (rw (place_at_lem s a la) ra) x (h u))
 
   three : (R : ℕ → Place → Place → Type 0) (a b c : ℕ) (f : Place → Place) → a < summit → b < summit → c < summit → R a (old a) (f (old a))
@@ -60,7 +61,7 @@ module _ {s : State} (r : Ordered s) (size : length s.threads ≡ 8) (room : len
       → R x (old x) (get_or (put (at c (f (place_at s c))) (put (at b (f (place_at s b))) (put (at a (f (place_at s a))) s.places))) x zero_place)
   three R a b c f la lb lc ra rb rc x h =
       put-each R old (put (at b (f (place_at s b))) (put (at a (f (place_at s a))) s.places)) c (f (place_at s c))
-      (put-length (at b (f (place_at s b))) (put (at a (f (place_at s a))) s.places) ∙ put-length (at a (f (place_at s a))) s.places ∙ room) lc
+      (length-put (at b (f (place_at s b))) (put (at a (f (place_at s a))) s.places) ∙ length-put (at a (f (place_at s a))) s.places ∙ room) lc
       (rw (place_at_lem s c lc) rc) x (λ u. two R a b f f la lb ra rb x (h u))
 
   abbrev same_body : ℕ → Place → Place → Type 0

@@ -17,12 +17,13 @@ use Rattle.graph.specs.Cases.{Same, same, apart, compared}
 use Rattle.graph.specs.Count.{routes, routes_more}
 use Rattle.graph.specs.Walk.{Cell}
 use Rattle.graph.specs.Graph.{summit}
+use Rattle.states.specs.Lists.{length-put}
 use Rattle.order.specs.World.{cell_of_body, cell_node, World, cell, keys, world_of, Sound}
 use Rattle.order.specs.Stages.{Stage, Dense, Splitting}
 use Rattle.order.specs.Change.{Change}
 use Rattle.order.specs.Survive.{owning, held_keys}
 use Rattle.order.specs.Steady.{Any}
-use Rattle.order.specs.Bridge.{place_at_lem, put_new, put_old, put-length}
+use Rattle.order.specs.Bridge.{place_at_lem, put_new, put_old}
 use Rattle.order.specs.Ordered.{Ordered, Stepped}
 use Rattle.order.specs.Quiet.{self}
 use Rattle.order.specs.AtPhase.{at_phase_lem}
@@ -73,10 +74,10 @@ module _ {s : State} (r : Ordered s) (len : length s.threads ≡ 8) (room : leng
     ps2 = put (at (n + 1) p_r) ps1
 
     len1 : length ps1 ≡ 128
-    len1 = put-length (at n p_l) s.places ∙ room
+    len1 = length-put (at n p_l) s.places ∙ room
 
     len2 : length ps2 ≡ 128
-    len2 = put-length (at (n + 1) p_r) ps1 ∙ len1
+    len2 = length-put (at (n + 1) p_r) ps1 ∙ len1
 
     abbrev w' : World
     w' = world_of (apply s me (split (view_of s me))) r.tree (given n (n + 3) me r.own)

@@ -8,39 +8,28 @@ ghost use Rattle.rules.specs.Places.{is_route, keys_of, route_key, child_on, chi
 use locks::lock;
 use rules::state::{Body, Lock, Place};
 
+// A node register that names no node. No Option: the record holds a number, and any number gets an answer.
+pub const NONE: u8 = 128;
+
 pub fn is_route(p: Place) -> bool
     ensures { result ≡ is_route p }
 {
-    let b = p.body;
-    match b {
-        Body::Base { keys: _ } => false,
-        Body::Route {
-            key: _,
-            left: _,
-            right: _,
-        } => true,
-    }
+    matches!(p.body, Body::Route { .. })
 }
 
 pub fn is_free(p: Place) -> bool
     ensures { result ≡ is_free p }
 {
-    let l = p.lock;
-    l.holder == 8
+    p.lock.holder == lock::NOBODY
 }
 
 // The keys of a base; a route has none.
 pub fn keys_of(p: Place) -> u64
     ensures { result ≡ keys_of p }
 {
-    let b = p.body;
-    match b {
+    match p.body {
         Body::Base { keys } => keys,
-        Body::Route {
-            key: _,
-            left: _,
-            right: _,
-        } => 0,
+        Body::Route { .. } => 0,
     }
 }
 
@@ -48,14 +37,9 @@ pub fn keys_of(p: Place) -> u64
 pub fn route_key(p: Place) -> u8
     ensures { result ≡ route_key p }
 {
-    let b = p.body;
-    match b {
-        Body::Base { keys: _ } => 0,
-        Body::Route {
-            key,
-            left: _,
-            right: _,
-        } => key,
+    match p.body {
+        Body::Base { .. } => 0,
+        Body::Route { key, .. } => key,
     }
 }
 
@@ -63,14 +47,9 @@ pub fn route_key(p: Place) -> u8
 pub fn child_on(w: bool, p: Place) -> u8
     ensures { result ≡ child_on w p }
 {
-    let b = p.body;
-    match b {
-        Body::Base { keys: _ } => 128,
-        Body::Route {
-            key: _,
-            left,
-            right,
-        } => { if w { right } else { left } }
+    match p.body {
+        Body::Base { .. } => NONE,
+        Body::Route { left, right, .. } => if w { right } else { left },
     }
 }
 
@@ -78,30 +57,26 @@ pub fn child_on(w: bool, p: Place) -> u8
 pub fn child_by(k: u8, p: Place) -> u8
     ensures { result ≡ child_by k p }
 {
-    let at = route_key(p);
-    let left = k < at;
-    child_on(!left, p)
+    child_on(k >= route_key(p), p)
 }
 
 fn swap_body(x: u8, new: u8, b: Body) -> Body
     ensures { result ≡ swap_body x new b }
 {
-    match b {
-        Body::Base { keys } => Body::Base { keys },
-        Body::Route { key, left, right } => {
-            if left == x {
-                Body::Route {
-                    key,
-                    left: new,
-                    right,
-                }
-            } else {
-                Body::Route {
-                    key,
-                    left,
-                    right: new,
-                }
-            }
+    let Body::Route { key, left, right } = b else {
+        return b;
+    };
+    if left == x {
+        Body::Route {
+            key,
+            left: new,
+            right,
+        }
+    } else {
+        Body::Route {
+            key,
+            left,
+            right: new,
         }
     }
 }
@@ -110,61 +85,43 @@ fn swap_body(x: u8, new: u8, b: Body) -> Body
 pub fn takes_place(x: u8, new: u8, y: Place) -> Place
     ensures { result ≡ takes_place x new y }
 {
-    let l = y.lock;
-    let b = y.body;
-    let swapped = swap_body(x, new, b);
     Place {
-        lock: l,
-        valid: y.valid,
-        body: swapped,
+        body: swap_body(x, new, y.body),
+        ..y
     }
 }
 
 pub fn with_lock(new: Lock, p: Place) -> Place
     ensures { result ≡ with_lock new p }
 {
-    let b = p.body;
-    Place {
-        lock: new,
-        valid: p.valid,
-        body: b,
-    }
+    Place { lock: new, ..p }
 }
 
+// `release` and `zero` differ in the rule on the lock alone; one function that takes the rule would say no more than these lines.
 pub fn release(p: Place) -> Place
     ensures { result ≡ release p }
 {
-    let l = p.lock;
-    with_lock(lock::release_lock(l), p)
+    with_lock(lock::release_lock(p.lock), p)
 }
 
 pub fn zero(p: Place) -> Place
     ensures { result ≡ zero p }
 {
-    let l = p.lock;
-    with_lock(lock::zero_lock(l), p)
+    with_lock(lock::zero_lock(p.lock), p)
 }
 
 pub fn invalid(p: Place) -> Place
     ensures { result ≡ invalid p }
 {
-    let l = p.lock;
-    let b = p.body;
-    Place {
-        lock: l,
-        valid: false,
-        body: b,
-    }
+    Place { valid: false, ..p }
 }
 
 pub fn with_keys(keys: u64, b: Place) -> Place
     ensures { result ≡ with_keys keys b }
 {
-    let l = b.lock;
     Place {
-        lock: l,
-        valid: b.valid,
         body: Body::Base { keys },
+        ..b
     }
 }
 
@@ -174,8 +131,8 @@ pub fn new_node(b: Body) -> Place
 {
     Place {
         lock: Lock {
-            holder: 8,
-            statistics: 2000000,
+            holder: lock::NOBODY,
+            statistics: lock::ZERO_STATISTICS,
         },
         valid: true,
         body: b,

@@ -1,5 +1,5 @@
 -- Counted steps are as many steps, one by one: calls come to the moves that `moves_of` says.
-use Rattle.std.specs.Prelude.{Bool, not, List, [], ◌∷◌, ◌++◌, refl, ltb, eqb}
+use Rattle.std.specs.Prelude.{Bool, not, List, [], ◌∷◌, ◌++◌, refl, ltb, eqb, Err, Ok, Result}
 use Rattle.std.proofs.Math.Bool.{true, false, cond}
 use Rattle.std.proofs.Common.{◌∙◌, ltb-false}
 use Rattle.std.proofs.Math.Path.{◌≡◌, sym, ap, ap₂}
@@ -10,13 +10,9 @@ use Rattle.rules.specs.State.{thread_at}
 use Rattle.rules.specs.Rows.{plan_of}
 use Rattle.rules.specs.Needs.{stuck}
 use Rattle.rules.specs.Range.{in_range}
-use Rattle.rules.specs.Step.{view_of, after, ends, reply_of, step_of, run_of}
+use Rattle.rules.specs.Step.{view_of, after, ends, reply_of, step_of, run_of, Replied}
 use Rattle.rules.specs.Step as Rules
 use Rattle.rules.specs.declared.state.State.{State}
-use Rattle.rules.specs.declared.answer.Step as Step
-use Rattle.rules.specs.declared.answer.StepReply as StepReply
-use Rattle.rules.specs.declared.answer.Run.{Run}
-use Rattle.rules.specs.declared.answer.RunReply as RunReply
 use Rattle.states.specs.Tests.{pick-by}
 use Rattle.states.specs.Calls.{steps_tests, run_tests_lem}
 use Rattle.states.specs.Kept.{after_in_range}
@@ -26,21 +22,26 @@ use Rattle.order.proofs.Bounded.{move_kept}
 use Rattle.plain.proofs.Goes.{goes_on}
 use Rattle.plain.proofs.RunSteps.{times_last, accepts, taken, run_is-steps}
 use Rattle.plain.specs.CountedSteps.{Last}
+use Rattle.rules.specs.declared.answer.StepReply as StepReply
+use Rattle.rules.specs.declared.answer.RunReply.{RunReply}
+use Rattle.rules.specs.declared.answer.RunReply as RunReply
+use Rattle.rules.specs.declared.answer.StepReply.{StepReply}
+use Rattle.rules.specs.declared.answer.Refusal.{Refusal}
 
-refuses : {x j a c : ℕ} → RunReply.TheVariants.Refused x ≡ RunReply.TheVariants.Ends j a c → ⊥
+refuses : {x : Refusal} {j a c : ℕ} → Err x ≡ Ok (RunReply.TheVariants.Ends j a c) → ⊥
 refuses q = let w : ◌≡◌ {A = ℕ} 0 1 = cc in omega arith
 
 -- counted steps, where some were taken
 module _ (from : State) (t : ℕ) (l : t ≤ 7) where
-  abbrev Told : Run → Type 0
-  Told r = (j a c : ℕ) → r.reply ≡ RunReply.TheVariants.Ends j a c → Last from t j a c
+  abbrev Told : Replied RunReply → Type 0
+  Told r = (j a c : ℕ) → r.reply ≡ Ok (RunReply.TheVariants.Ends j a c) → Last from t j a c
 
   told : (n : ℕ) (s : State) (k : ℕ) → Invariant s → in_range s ≡ true → ((thread_at s t).phase ≡ 0 → ⊥) → s ≡ after_moves from (times k (steps t))
       → Told (Rules.steps n from s t k)
   unfolding Rules.steps times after_moves reply_of
   told zero s k i r n e = λ j a c z. absurd (stops z)
     where
-      stops : {x y j a c : ℕ} → RunReply.TheVariants.Stops x y ≡ RunReply.TheVariants.Ends j a c → ⊥
+      stops : {x y j a c : ℕ} → ◌≡◌ {A = Result RunReply Refusal} (Ok (RunReply.TheVariants.Stops x y)) (Ok (RunReply.TheVariants.Ends j a c)) → ⊥
       stops q = let w : ◌≡◌ {A = ℕ} 0 1 = cc in omega arith
   told (suc m) s k i r n e =
       rw (steps_tests m from s t k)
@@ -50,27 +51,30 @@ module _ (from : State) (t : ℕ) (l : t ≤ 7) where
       (sym (taken s t r l n f) ∙ ap (λ (x : State). after_move x (steps t)) e ∙ sym (times_last from k (steps t))))
     where
       last : stuck (view_of s t) ≡ false → ends (thread_at s t) ≡ true → {j a c : ℕ}
-          → RunReply.TheVariants.Ends (suc k) (thread_at s t).answer (thread_at s t).commit ≡ RunReply.TheVariants.Ends j a c → Last from t j a c
+          → ◌≡◌ {A = Result RunReply Refusal} (Ok (RunReply.TheVariants.Ends (suc k) (thread_at s t).answer (thread_at s t).commit))
+          (Ok (RunReply.TheVariants.Ends j a c)) → Last from t j a c
       last f g {j} {a} {c} z =
+          let done : StepReply → Result StepReply Refusal = Ok in
           let x : (thread_at s t).answer ≡ a = cc in
           let y : (thread_at s t).commit ≡ c = cc in
           record {
             before = k;
             count = cc;
             reply =
-                ap (λ (u : State). (step_of u t).reply) (sym e) ∙ ap (λ (b : Step.Step). b.reply) (accepts s t r l n f)
+                ap (λ (u : State). (step_of u t).reply) (sym e) ∙ ap (λ (b : Replied StepReply). b.reply) (accepts s t r l n f)
                 ∙ ap
                 (λ (b : Bool).
-                cond b (StepReply.TheVariants.Ends (thread_at s t).answer (thread_at s t).commit)
-                (StepReply.TheVariants.Goes (plan_of (view_of s t)).thread.phase)) g
-                ∙ ap₂ (λ (u v : ℕ). StepReply.TheVariants.Ends u v) x y;
+                done
+                (cond b (StepReply.TheVariants.Ends (thread_at s t).answer (thread_at s t).commit)
+                (StepReply.TheVariants.Goes (plan_of (view_of s t)).thread.phase))) g
+                ∙ ap₂ (λ (u v : ℕ). done (StepReply.TheVariants.Ends u v)) x y;
           }
 
 -- a reply that ends the operation is that of the last of the steps taken
-pub run_replies : {s : State} → Invariant s → (t n k a c : ℕ) → (run_of s t n).reply ≡ RunReply.TheVariants.Ends k a c → Last s t k a c
+pub run_replies : {s : State} → Invariant s → (t n k a c : ℕ) → (run_of s t n).reply ≡ Ok (RunReply.TheVariants.Ends k a c) → Last s t k a c
 unfolding times after_moves
 run_replies {s} i t n =
-    let Q : Run → Type 0 = λ r. (k a c : ℕ) → r.reply ≡ RunReply.TheVariants.Ends k a c → Last s t k a c in
+    let Q : Replied RunReply → Type 0 = λ r. (k a c : ℕ) → r.reply ≡ Ok (RunReply.TheVariants.Ends k a c) → Last s t k a c in
     rw (run_tests_lem s t n)
     (pick-by Q (not (in_range s)) (λ e k a c z. absurd (refuses z)) λ r.
     pick-by Q (ltb 7 t) (λ e k a c z. absurd (refuses z)) λ l.

@@ -1,5 +1,5 @@
 -- Each commit is of an operation that was begun and not committed before, and each operation that ends replies as it committed.
-use Rattle.std.specs.Prelude.{Bool, true, cond, not, ◌&&◌, List, [], ◌∷◌, ◌≡◌, refl, ℕ, ◌≤◌, ltb, leb}
+use Rattle.std.specs.Prelude.{Bool, true, cond, not, ◌&&◌, List, [], ◌∷◌, ◌≡◌, refl, ℕ, ◌≤◌, ltb, leb, Err, Result, Ok}
 use Rattle.std.proofs.Math.Bool.{false}
 use Rattle.std.proofs.Common.{sym, ap₂, ◌∙◌, subst, arith, get_or-set_same}
 use Rattle.std.proofs.Math.Path.{ap}
@@ -10,14 +10,10 @@ use Rattle.rules.specs.State.{zero_thread, fresh, place_at, thread_at}
 use Rattle.rules.specs.Registers.{set_operation}
 use Rattle.rules.specs.Range.{in_range}
 use Rattle.rules.specs.Rows.{plan_of}
-use Rattle.rules.specs.Step.{begun, begin_of, view_of, after, ends, reply_of, step_of}
-use Rattle.rules.specs.Answers.{begin_number}
+use Rattle.rules.specs.Step.{begun, begin_of, view_of, after, ends, reply_of, step_of, Replied}
 use Rattle.rules.specs.declared.state.Settings.{Settings}
 use Rattle.rules.specs.declared.state.Thread.{Thread}
 use Rattle.rules.specs.declared.state.State.{State}
-use Rattle.rules.specs.declared.answer.Begin.{Begin}
-use Rattle.rules.specs.declared.answer.BeginReply.TheVariants.{Refused}
-use Rattle.rules.specs.declared.answer.StepReply as StepReply
 use Rattle.states.specs.Tests.{both, pick-by}
 use Rattle.graph.specs.Cases.{Same, same, apart, compared}
 use Rattle.runs.specs.Calls.{Move, begins, steps, after_move, after_moves, is_begun, accepted}
@@ -31,6 +27,11 @@ use Rattle.plain.specs.Registers.{commit_done, step_same}
 use Rattle.plain.specs.Log.{Outcome, takes, leaves}
 use Rattle.plain.proofs.Log.{outcome}
 use Rattle.plain.proofs.Goes.{goes_on, ended}
+use Rattle.rules.specs.declared.answer.Refusal.{Refusal}
+use Rattle.rules.specs.declared.answer.StepReply.{StepReply}
+use Rattle.rules.specs.declared.answer.StepReply as StepReply
+use Rattle.rules.specs.Refusals.{reply_number, number}
+use Rattle.rules.specs.declared.answer.Refusal.TheVariants.{OutOfRange, NotOfTheForms, NoThread, NoKey, Busy, AllBegun}
 
 -- f is how it stands by the registers of the eight threads
 abbrev Agrees : (ℕ → Due) → State → Type 0
@@ -92,18 +93,18 @@ data Starts (s : State) (t o k : ℕ) : Type 0 where
 start : (s : State) (t o k : ℕ) → Starts s t o k
 unfolding begin_of
 start s t o k =
-    let Q : Begin → Type 0 = λ b. (begin_of s t o k ≡ b) → Starts s t o k in
-    pick-by Q (not (in_range s)) (λ e z. out 7 refl z) (λ r.
-    pick-by Q (ltb 2 o) (λ e z. out 1 refl z) (λ a.
-    pick-by Q (ltb 7 t) (λ e z. out 3 refl z) (λ b.
-    pick-by Q (ltb 63 k) (λ e z. out 4 refl z) (λ c.
-    pick-by Q (not (eqb (thread_at s t).phase 0)) (λ e z. out 5 refl z) (λ d.
-    pick-by Q (leb 1000000 s.begun) (λ e z. out 11 refl z) (λ g z.
+    let Q : Replied (Unit {0}) → Type 0 = λ b. (begin_of s t o k ≡ b) → Starts s t o k in
+    pick-by Q (not (in_range s)) (λ e z. out OutOfRange refl z) (λ r.
+    pick-by Q (ltb 2 o) (λ e z. out NotOfTheForms refl z) (λ a.
+    pick-by Q (ltb 7 t) (λ e z. out NoThread refl z) (λ b.
+    pick-by Q (ltb 63 k) (λ e z. out NoKey refl z) (λ c.
+    pick-by Q (not (eqb (thread_at s t).phase 0)) (λ e z. out Busy refl z) (λ d.
+    pick-by Q (leb 1000000 s.begun) (λ e z. out AllBegun refl z) (λ g z.
     starts (ltb-false 7 t b) (eqb-true (thread_at s t).phase 0 (not-false _ d))
-    (ap (λ (x : Begin). eqb (begin_number x.reply) 0) z) (ap (λ (x : Begin). x.state) z))))))) refl
+    (ap (λ (x : Replied (Unit {0})). eqb (reply_number x.reply) 0) z) (ap (λ (x : Replied (Unit {0})). x.state) z))))))) refl
   where
-    out : (n : ℕ) → eqb n 0 ≡ false → begin_of s t o k ≡ (record { reply = Refused n; state = s }) → Starts s t o k
-    out n e z = refuses (ap (λ (x : Begin). eqb (begin_number x.reply) 0) z ∙ e) (ap (λ (x : Begin). x.state) z)
+    out : (r : Refusal) → eqb (number r) 0 ≡ false → begin_of s t o k ≡ (record { reply = Err r; state = s }) → Starts s t o k
+    out r e z = refuses (ap (λ (x : Replied (Unit {0})). eqb (reply_number x.reply) 0) z ∙ e) (ap (λ (x : Replied (Unit {0})). x.state) z)
 
 module _ {s : State} (i : Invariant s) (f : ℕ → Due) (a : Agrees f s) where
   begin_agrees : (t o k : ℕ) → t ≤ 7 → Agrees (due_at t (due o k) f) (begun s t o k)
@@ -179,14 +180,14 @@ step_story : {s s' : State} → Invariant s → (f : ℕ → Due) → Agrees f s
     → ((g : ℕ → Due) → Agrees g (step_of s t).state → Story g L s') → Outcome s t
     → Story f (cond (accepted s t && commits_now s t) (commit (entry_of t (thread_at (after s t) t)) ∷ L) (finished t (thread_at s t) (step_of s t).reply L)) s'
 unfolding reply_of
-step_story {s} i f a t L h (leaves b z n y) = rw (b, y) (h f (subst (λ (x : State). Agrees f x) (sym z) a))
+step_story {s} i f a t L h (leaves b z m y) = rw (b, y) (h f (subst (λ (x : State). Agrees f x) (sym z) a))
 step_story {s} {s'} i f a t L h (takes l n b z r y) = rw (b, y) (go (commits_now s t) (ends (thread_at s t)) refl refl)
   where
     then : (g : ℕ → Due) → Agrees g (after s t) → Story g L s'
     then g x = h g (subst (λ (v : State). Agrees g v) (sym z) x)
 
     go : (c d : Bool) → commits_now s t ≡ c → ends (thread_at s t) ≡ d
-        → Story f (cond c (commit (entry_of t (thread_at (after s t) t)) ∷ L) (finished t (thread_at s t) (reply_of s t) L)) s'
+        → Story f (cond c (commit (entry_of t (thread_at (after s t) t)) ∷ L) (finished t (thread_at s t) (Ok (reply_of s t)) L)) s'
     go true d c q =
         let x = then (due_at t (done (entry_of t (thread_at (after s t) t))) f) (commit_agrees i f a l r c) in
         record { fits = (commit_due i f a l r c, x.fits); stands = x.stands }
@@ -238,9 +239,9 @@ events_log s (steps t ∷ cs) = go (accepted s t && commits_now s t) (step_of s 
     L : List Event
     L = events_of (step_of s t).state cs
 
-    go : (b : Bool) (r : StepReply.StepReply) → commits_in L ≡ log_of (step_of s t).state cs
+    go : (b : Bool) (r : Result StepReply Refusal) → commits_in L ≡ log_of (step_of s t).state cs
         → commits_in (cond b (commit e ∷ L) (finished t (thread_at s t) r L)) ≡ cond b (e ∷ log_of (step_of s t).state cs) (log_of (step_of s t).state cs)
     go true r q = ap (λ (l : List Entry). e ∷ l) q
-    go false (StepReply.TheVariants.Ends a m) q = q
-    go false (StepReply.TheVariants.Goes p) q = q
-    go false (StepReply.TheVariants.Refused m) q = q
+    go false (Ok (StepReply.TheVariants.Ends a m)) q = q
+    go false (Ok (StepReply.TheVariants.Goes p)) q = q
+    go false (Err m) q = q

@@ -1,5 +1,5 @@
 -- The commits of a run in their order: each answer is that of the plain set, and the numbers count from 1.
-use Rattle.std.specs.Prelude.{Bool, not, ◌&&◌, List, [], ◌∷◌, ◌≡◌, ℕ, ◌+◌, ◌≤◌, ◌<◌, length, ltb, leb, eqb}
+use Rattle.std.specs.Prelude.{Bool, not, ◌&&◌, List, [], ◌∷◌, ◌≡◌, ℕ, ◌+◌, ◌≤◌, ◌<◌, length, ltb, leb, eqb, Err, Ok}
 use Rattle.std.proofs.Math.Bool.{true, false, cond}
 use Rattle.std.proofs.Math.Path.{refl, ap, ap₂, fun_ext}
 use Rattle.std.proofs.Common.{sym, ◌∙◌, subst, subst₂, arith}
@@ -10,14 +10,10 @@ use Rattle.rules.specs.State.{fresh, place_at, thread_at}
 use Rattle.rules.specs.Places.{keys_of, keys_after, answer_of}
 use Rattle.rules.specs.Range.{in_range}
 use Rattle.rules.specs.Needs.{stuck}
-use Rattle.rules.specs.Step.{begun, begin_of, view_of, after, ends, reply_of, step_of}
-use Rattle.rules.specs.Answers.{step_number}
+use Rattle.rules.specs.Step.{begun, begin_of, view_of, after, reply_of, step_of, Replied}
 use Rattle.rules.specs.declared.state.Settings.{Settings}
 use Rattle.rules.specs.declared.state.Place.{Place}
 use Rattle.rules.specs.declared.state.State.{State}
-use Rattle.rules.specs.declared.answer.Begin.{Begin}
-use Rattle.rules.specs.declared.answer.Step.{Step}
-use Rattle.rules.specs.declared.answer.StepReply as StepReply
 use Rattle.states.specs.Tests.{both, pick-by, pick}
 use Rattle.graph.specs.Cases.{Same, same, apart, compared}
 use Rattle.runs.specs.Calls.{Move, begins, steps, after_move, after_moves, accepted}
@@ -31,30 +27,33 @@ use Rattle.plain.specs.Plain.{Plain, plain_then, fresh_plain}
 use Rattle.plain.specs.Runs.{plain_move, plain_after, move_plain}
 use Rattle.plain.specs.Registers.{commit_done, step_same, end_same}
 use Rattle.plain.specs.Log.{Outcome, takes, leaves}
+use Rattle.rules.specs.declared.answer.Refusal.{Refusal}
+use Rattle.rules.specs.declared.answer.StepReply.{StepReply}
+use Rattle.rules.specs.Refusals.{reply_number, number}
+use Rattle.rules.specs.declared.answer.Refusal.TheVariants.{NoThread, Idle, OutOfRange, Stuck}
 
 pub outcome : (s : State) (t : ℕ) → Outcome s t
-unfolding step_of reply_of
+unfolding step_of
 outcome s t =
-    let Q : Step → Type 0 = λ b. (step_of s t ≡ b) → Outcome s t in
-    pick-by Q (not (in_range s)) (λ e z. out 7 refl z) (λ r.
-    pick-by Q (ltb 7 t) (λ e z. out 3 refl z) (λ a.
-    pick-by Q (eqb (thread_at s t).phase 0) (λ e z. out 6 refl z) (λ b.
-    pick-by Q (stuck (view_of s t)) (λ e z. out 8 refl z) (λ c z. into (ltb-false 7 t a) (eqb-false (thread_at s t).phase 0 b) (not-false _ r) z)))) refl
+    let Q : Replied StepReply → Type 0 = λ b. (step_of s t ≡ b) → Outcome s t in
+    pick-by Q (not (in_range s)) (λ e z. out OutOfRange refl z) (λ r.
+    pick-by Q (ltb 7 t) (λ e z. out NoThread refl z) (λ a.
+    pick-by Q (eqb (thread_at s t).phase 0) (λ e z. out Idle refl z) (λ b.
+    pick-by Q (stuck (view_of s t)) (λ e z. out Stuck refl z) (λ c z. into (ltb-false 7 t a) (eqb-false (thread_at s t).phase 0 b) (not-false _ r) z)))) refl
   where
-    out : (n : ℕ) → eqb n 0 ≡ false → step_of s t ≡ (record { reply = StepReply.TheVariants.Refused n; state = s }) → Outcome s t
-    out n e z = leaves (ap (λ (b : Step). eqb (step_number b.reply) 0) z ∙ e) (ap (λ (b : Step). b.state) z) n (ap (λ (b : Step). b.reply) z)
+    out : (r : Refusal) → eqb (number r) 0 ≡ false → step_of s t ≡ (record { reply = Err r; state = s }) → Outcome s t
+    out r e z = leaves (ap (λ (b : Replied StepReply). eqb (reply_number b.reply) 0) z ∙ e) (ap (λ (b : Replied StepReply). b.state) z) r (ap (λ (b : Replied StepReply). b.reply) z)
 
-    into : t ≤ 7 → ((thread_at s t).phase ≡ 0 → ⊥) → in_range s ≡ true → step_of s t ≡ (record { reply = reply_of s t; state = after s t }) → Outcome s t
+    into : t ≤ 7 → ((thread_at s t).phase ≡ 0 → ⊥) → in_range s ≡ true → step_of s t ≡ (record { reply = Ok (reply_of s t); state = after s t }) → Outcome s t
     into l n r z =
         takes l n
-        (ap (λ (b : Step). eqb (step_number b.reply) 0) z
-        ∙ pick (λ (b : StepReply.StepReply). eqb (step_number b) 0 ≡ true) (ends (thread_at s t)) refl refl) (ap (λ (b : Step). b.state) z) r
-        (ap (λ (b : Step). b.reply) z)
+        (ap (λ (b : Replied StepReply). eqb (reply_number b.reply) 0) z) (ap (λ (b : Replied StepReply). b.state) z) r
+        (ap (λ (b : Replied StepReply). b.reply) z)
 
 begin_committed : (s : State) (t o k : ℕ) → (begin_of s t o k).state.committed ≡ s.committed
 unfolding begin_of begun
 begin_committed s t o k =
-    let Q : Begin → Type 0 = λ b. b.state.committed ≡ s.committed in
+    let Q : Replied (Unit {0}) → Type 0 = λ b. b.state.committed ≡ s.committed in
     pick Q (not (in_range s)) refl
     (pick Q (ltb 2 o) refl (pick Q (ltb 7 t) refl (pick Q (ltb 63 k) refl (pick Q (not (eqb (thread_at s t).phase 0)) refl (pick Q (leb 1000000 s.begun) refl refl)))))
 

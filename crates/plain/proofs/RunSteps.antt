@@ -1,5 +1,5 @@
 -- The state after counted steps is that after as many steps as their reply says were taken.
-use Rattle.std.specs.Prelude.{not, refl, ltb, eqb}
+use Rattle.std.specs.Prelude.{not, refl, ltb, eqb, Ok}
 use Rattle.std.proofs.Math.Bool.{true, false}
 use Rattle.std.proofs.Common.{true≢false, ◌∙◌, ltb-false, eqb-true, le-ltb}
 use Rattle.std.proofs.Math.Path.{◌≡◌, sym, ap}
@@ -8,17 +8,17 @@ use Rattle.std.proofs.lemmas.Bool.{eqb-false, not-false}
 use Rattle.rules.specs.State.{thread_at}
 use Rattle.rules.specs.Needs.{stuck}
 use Rattle.rules.specs.Range.{in_range}
-use Rattle.rules.specs.Step.{view_of, after, ends, reply_of, step_of, run_of}
+use Rattle.rules.specs.Step.{view_of, after, ends, reply_of, step_of, run_of, Replied}
 use Rattle.rules.specs.Step as Rules
 use Rattle.rules.specs.declared.state.State.{State}
-use Rattle.rules.specs.declared.answer.Step as Step
-use Rattle.rules.specs.declared.answer.Run.{Run}
 use Rattle.states.specs.Tests.{pick-by}
 use Rattle.states.specs.Calls.{steps_tests, run_tests_lem}
 use Rattle.states.specs.Kept.{after_in_range}
 use Rattle.runs.specs.Calls.{Move, steps, after_move, after_moves, times, taken_by}
 use Rattle.order.specs.Invariant.{Invariant, after_kept}
 use Rattle.plain.proofs.Goes.{goes_on}
+use Rattle.rules.specs.declared.answer.RunReply.{RunReply}
+use Rattle.rules.specs.declared.answer.StepReply.{StepReply}
 
 -- one more at the end is one more at the front
 pub times_last : (s : State) (n : ℕ) (c : Move) → after_moves s (times (suc n) c) ≡ after_move (after_moves s (times n c)) c
@@ -28,10 +28,10 @@ times_last s (suc n) c = times_last (after_move s c) n c
 
 -- an accepted step
 pub accepts : (s : State) (t : ℕ) → in_range s ≡ true → t ≤ 7 → ((thread_at s t).phase ≡ 0 → ⊥) → stuck (view_of s t) ≡ false
-    → step_of s t ≡ record { reply = reply_of s t; state = after s t }
+    → step_of s t ≡ record { reply = Ok (reply_of s t); state = after s t }
 unfolding step_of
 accepts s t r l n e =
-    let Q : Step.Step → Type 0 = λ b. b ≡ record { reply = reply_of s t; state = after s t } in
+    let Q : Replied StepReply → Type 0 = λ b. b ≡ record { reply = Ok (reply_of s t); state = after s t } in
     pick-by Q (not (in_range s)) (λ f. absurd (true≢false (sym f ∙ ap not r))) λ a.
     pick-by Q (ltb 7 t) (λ f. absurd (true≢false (sym f ∙ le-ltb 7 t l))) λ b.
     pick-by Q (eqb (thread_at s t).phase 0) (λ f. absurd (n (eqb-true (thread_at s t).phase 0 f))) λ c.
@@ -39,11 +39,11 @@ accepts s t r l n e =
 
 pub taken : (s : State) (t : ℕ) → in_range s ≡ true → t ≤ 7 → ((thread_at s t).phase ≡ 0 → ⊥) → stuck (view_of s t) ≡ false → after_move s (steps t) ≡ after s t
 unfolding after_move
-taken s t r l n e = ap (λ (b : Step.Step). b.state) (accepts s t r l n e)
+taken s t r l n e = ap (λ (b : Replied StepReply). b.state) (accepts s t r l n e)
 
 -- counted steps, where some were taken
 module _ (from : State) (t : ℕ) (l : t ≤ 7) where
-  abbrev Played : Run → Type 0
+  abbrev Played : Replied RunReply → Type 0
   Played r = r.state ≡ after_moves from (times (taken_by r.reply) (steps t))
 
   played : (n : ℕ) (s : State) (k : ℕ) → Invariant s → in_range s ≡ true → ((thread_at s t).phase ≡ 0 → ⊥)
@@ -63,7 +63,7 @@ module _ (from : State) (t : ℕ) (l : t ≤ 7) where
 pub run_is-steps : {s : State} → Invariant s → (t n : ℕ) → (run_of s t n).state ≡ after_moves s (times (taken_by (run_of s t n).reply) (steps t))
 unfolding times after_moves
 run_is-steps {s} i t n =
-    let Q : Run → Type 0 = λ r. r.state ≡ after_moves s (times (taken_by r.reply) (steps t)) in
+    let Q : Replied RunReply → Type 0 = λ r. r.state ≡ after_moves s (times (taken_by r.reply) (steps t)) in
     rw (run_tests_lem s t n)
     (pick-by Q (not (in_range s)) (λ e. refl) λ r.
     pick-by Q (ltb 7 t) (λ e. refl) λ l.

@@ -1,20 +1,18 @@
 -- Runs from fresh: the commits in their order answer as a plain set does, and the keys are the plain set's, each once.
-use Rattle.std.specs.Prelude.{true, cond, not, List, [], ◌∷◌, ◌≡◌, refl, ℕ, ltb, leb, eqb}
+use Rattle.std.specs.Prelude.{cond, not, List, [], ◌∷◌, ℕ, ltb, leb, eqb}
 use Rattle.std.proofs.Common.{ltb-false, eqb-true}
 use Rattle.std.proofs.lemmas.Bool.{not-false}
 use Rattle.rules.specs.State.{fresh, thread_at}
 use Rattle.rules.specs.Range.{in_range}
 use Rattle.rules.specs.Needs.{stuck}
-use Rattle.rules.specs.Step.{begin_of, view_of, ends, reply_of, step_of}
-use Rattle.rules.specs.Answers.{step_number}
+use Rattle.rules.specs.Step.{begin_of, view_of, step_of, Replied}
 use Rattle.rules.specs.declared.state.Settings.{Settings}
 use Rattle.rules.specs.declared.state.State.{State}
-use Rattle.rules.specs.declared.answer.Begin.{Begin}
-use Rattle.rules.specs.declared.answer.Step.{Step}
-use Rattle.rules.specs.declared.answer.StepReply as StepReply
-use Rattle.states.specs.Tests.{pick-by, pick}
+use Rattle.states.specs.Tests.{pick-by}
 use Rattle.runs.specs.Calls.{Move, begins, steps, after_move, after_moves, accepted}
 use Rattle.plain.specs.Plain.{Plain, plain_then, fresh_plain, begun_plain, after_plain}
+use Rattle.rules.specs.declared.answer.StepReply.{StepReply}
+use Rattle.rules.specs.Refusals.{reply_number}
 
 -- the plain set after a call: only an accepted step that commits changes it
 unfoldable pub plain_move : State → Move → ℕ → ℕ
@@ -28,9 +26,9 @@ plain_after s (c ∷ cs) p = plain_after (after_move s c) cs (plain_move s c p)
 
 -- a call holds what the plain set then has
 pub move_plain : {s : State} {p : ℕ} → Plain s p → (c : Move) → Plain (after_move s c) (plain_move s c p)
-unfolding after_move plain_move begin_of step_of reply_of
+unfolding after_move plain_move begin_of step_of
 move_plain {s} {p} x (begins t o k) =
-    let Q : Begin → Type 0 = λ b. Plain b.state p in
+    let Q : Replied (Unit {0}) → Type 0 = λ b. Plain b.state p in
     pick-by Q (not (in_range s)) (λ e. x) λ r.
     pick-by Q (ltb 2 o) (λ e. x) λ a.
     pick-by Q (ltb 7 t) (λ e. x) λ b.
@@ -39,12 +37,12 @@ move_plain {s} {p} x (begins t o k) =
     pick-by Q (leb 1000000 s.begun) (λ e. x) λ g.
     begun_plain x t o k (ltb-false 7 t b) (ltb-false 63 k c) (eqb-true (thread_at s t).phase 0 (not-false _ d))
 move_plain {s} {p} x (steps t) =
-    let Q : Step → Type 0 = λ b. Plain b.state (cond (eqb (step_number b.reply) 0) (plain_then s t p) p) in
+    let Q : Replied StepReply → Type 0 = λ b. Plain b.state (cond (eqb (reply_number b.reply) 0) (plain_then s t p) p) in
     pick-by Q (not (in_range s)) (λ e. x) λ r.
     pick-by Q (ltb 7 t) (λ e. x) λ a.
     pick-by Q (eqb (thread_at s t).phase 0) (λ e. x) λ b.
     pick-by Q (stuck (view_of s t)) (λ e. x) λ c.
-    rw (pick (λ (z : StepReply.StepReply). eqb (step_number z) 0 ≡ true) (ends (thread_at s t)) refl refl) (after_plain x (ltb-false 7 t a))
+    after_plain x (ltb-false 7 t a)
 
 -- so do all calls
 pub moves_plain : {s : State} {p : ℕ} → Plain s p → (cs : List Move) → Plain (after_moves s cs) (plain_after s cs p)

@@ -1,7 +1,7 @@
 -- Turns behind others in one room: what a loop over the lines needs.
-use Rattle.std.specs.Prelude.{Bool, true, false, cond, not, List, ◌++◌, ◌≡◌, refl, ℕ, zero, suc, ◌+◌, ◌-◌, ◌≤◌, ◌<◌, eqb, length, take, drop}
+use Rattle.std.specs.Prelude.{Bool, true, false, cond, not, List, ◌++◌, ◌≡◌, refl, ℕ, zero, suc, ◌+◌, ◌-◌, ◌≤◌, ◌<◌, length, take, drop, Option}
 use Rattle.std.proofs.Math.Bool.{and-false}
-use Rattle.std.proofs.Common.{append-nil, sym, ◌∙◌, add-one, arith, drop_of_length-le, length-drop, length-append}
+use Rattle.std.proofs.Common.{append-nil, subst, sym, ◌∙◌, add-one, arith, drop_of_length-le, length-drop, length-append}
 use Rattle.std.proofs.Math.Path.{ap}
 use borrow.Author.Tests.{le-ltb, lt-ltb, le-leb, lt-leb, ne_eqb}
 use Rattle.std.proofs.Math.Seq.{length-sets}
@@ -15,11 +15,12 @@ use Rattle.sheet.specs.Sheet.{Played, silent, narrow, play_form, line_of, end_of
 use Rattle.sheet.specs.Called.{Called}
 use Rattle.sheet.proofs.Lengths.{line_fits, end_fits}
 use Rattle.sheet.specs.declared.calls.Answer.{Answer}
-use Rattle.player.specs.Turns.{Out, standing, out, front, line_turn, turn_of, turn_fits, Turned, turn}
-use Rattle.player.specs.Several.{behind, goes_on, turns_of, several_of}
+use Rattle.player.specs.Turns.{Turn, Out, standing, out, front, line_turn, turn_of, turn_fits, Turned, turn}
+use Rattle.player.specs.Several.{last, behind, goes_on, turns_of, several_of}
 use Rattle.player.specs.Sheets.{form_in_range}
 use Rattle.player.specs.declared.Player.{Player}
-use Rattle.player.specs.declared.Turn.{Turn}
+use Rattle.rules.specs.declared.answer.Refusal.{Refusal}
+use Rattle.rules.specs.declared.answer.Refusal.TheVariants.{LittleRoom, OutOfRange}
 
 -- the room behind its first n bytes
 abbrev pub back : ℕ → List ℕ → List ℕ
@@ -71,34 +72,34 @@ back-length : (n : ℕ) (l : List ℕ) → length (back n l) ≡ length l - n
 back-length n l = rw (rest_part n l) (length-drop n l)
 
 -- what a line call writes behind some bytes stays within the room
-within : {q : Played} {part : List ℕ} {a : Answer} (n : ℕ) (k : List ℕ) → Called q (back n k) a part → length q.sheet ≤ length (back n k) → n ≤ length k
+within : {q : Played} {part : List ℕ} {a : Answer} {s1 : State} (n : ℕ) (k : List ℕ) → Called q (back n k) a s1 part → length q.sheet ≤ length (back n k) → n ≤ length k
     → n + a.length ≤ length k
-within {q} {part} {a} n k d h m = omega (arith, ap (λ (x : Answer). x.length) d.reply, back-length n k)
+within {q} {part} {a} {s1} n k d h m = omega (arith, ap (λ (x : Answer). x.length) d.reply, back-length n k)
 
-pub line_within : {part : List ℕ} {a : Answer} (n : ℕ) (k : List ℕ) (s : State) (line : List ℕ) → Called (line_of (length (back n k)) s line) (back n k) a part
+pub line_within : {part : List ℕ} {a : Answer} {s1 : State} (n : ℕ) (k : List ℕ) (s : State) (line : List ℕ) → Called (line_of (length (back n k)) s line) (back n k) a s1 part
     → n ≤ length k → n + a.length ≤ length k
 line_within n k s line d m = within n k d (line_fits (length (back n k)) s line) m
 
-pub end_within : {part : List ℕ} {a : Answer} (n : ℕ) (k : List ℕ) (s : State) → Called (end_of (length (back n k)) s) (back n k) a part → n ≤ length k
+pub end_within : {part : List ℕ} {a : Answer} {s1 : State} (n : ℕ) (k : List ℕ) (s : State) → Called (end_of (length (back n k)) s) (back n k) a s1 part → n ≤ length k
     → n + a.length ≤ length k
 end_within n k s d m = within n k d (end_fits (length (back n k)) s) m
 
 -- a turn whose stage is known
 pub turned_stage : {o : Out} {l k : List ℕ} {t : Turn} {n : ℕ} → Turned o l t k → t.player.stage ≡ n
-    → Turned o l (turn t.number t.length (standing t.player.at n t.player.state)) k
+    → Turned o l (turn t.refused t.length (standing t.player.at n t.player.state)) k
 turned_stage {o} {l} {k} {t} {n} u e =
     record {
-      reply = ap (λ (m : ℕ). turn t.number t.length (standing t.player.at m t.player.state)) (sym e) ∙ u.reply;
+      reply = ap (λ (m : ℕ). turn t.refused t.length (standing t.player.at m t.player.state)) (sym e) ∙ u.reply;
       bytes = u.bytes;
     }
 
 -- a line call in the room behind a turn
-turned_behind : {o : Out} {l k part : List ℕ} {t : Turn} {q : Played} {a : Answer} (at stage : ℕ) → Turned o l t k → Called q (back t.length k) a part
+turned_behind : {o : Out} {l k part : List ℕ} {t : Turn} {q : Played} {a : Answer} {s1 : State} (at stage : ℕ) → Turned o l t k → Called q (back t.length k) a s1 part
     → t.length + length q.sheet ≤ length k
     → Turned (behind o (out q at stage)) l
-    (turn (cond (eqb a.number 0) t.number a.number) (t.length + a.length) (standing at stage a.state))
+    (turn (last t.refused a.refused) (t.length + a.length) (standing at stage s1))
     (backed t.length k part)
-turned_behind {o} {l} {k} {part} {t} {q} {a} at stage c d h =
+turned_behind {o} {l} {k} {part} {t} {q} {a} {s1} at stage c d h =
     let e = turned_length c in
     let v : Wrote l 0 o.sheet t.length k = record { next = omega arith; bytes = c.bytes } in
     let y : length (drop t.length k) ≤ length k - t.length = simp length-drop (omega arith) in
@@ -106,10 +107,10 @@ turned_behind {o} {l} {k} {part} {t} {q} {a} at stage c d h =
     let w : Wrote k t.length q.sheet (t.length + length q.sheet) (backed t.length k part) =
     record { next = refl; bytes = rw (z, append-nil, d.bytes, rest_part) (sets_behind k t.length q.sheet h) }
     in
-    record { reply = rw (d.reply, c.reply, length-append); bytes = (wrote-both v w).bytes }
+    record { reply = rw (d.reply, d.state, c.reply, length-append); bytes = (wrote-both v w).bytes }
 
 -- the next turn in what a turn left of the room, where it surely fits
-module _ {o : Out} {l k : List ℕ} {number used at : ℕ} {s : State} (file : List ℕ) (t : Turned o l (turn number used (standing at 1 s)) k)
+module _ {o : Out} {l k : List ℕ} {f0 : Option Refusal} {used at : ℕ} {s : State} (file : List ℕ) (t : Turned o l (turn f0 used (standing at 1 s)) k)
     (r : in_range s ≡ true) (h : used + 256 ≤ length k) where
   left_over : length l - length o.sheet ≡ length (back used k)
   left_over = omega (arith, turned_length t, ap length t.bytes, length-sets l 0 o.sheet, back-length used k)
@@ -129,12 +130,12 @@ module _ {o : Out} {l k : List ℕ} {number used at : ℕ} {s : State} (file : L
       ∙ ap (λ (q : Out). turns_of n (length l) file (behind o q)) next-turn
 
 -- a line leaves a state in range
-pub line_inner : {k k' : List ℕ} {a : Answer} (room : ℕ) (s : State) (l : List ℕ) → in_range s ≡ true → Called (line_of room s l) k a k'
-    → in_range a.state ≡ true
+pub line_inner : {k k' : List ℕ} {a : Answer} {s1 : State} (room : ℕ) (s : State) (l : List ℕ) → in_range s ≡ true → Called (line_of room s l) k a s1 k'
+    → in_range s1 ≡ true
 unfolding line_of
-line_inner room s l r c = rw c.reply (go (narrow room))
+line_inner room s l r c = rw c.state (go (narrow room))
   where
-    go : (t : Bool) → in_range (cond t (silent s 9) (cond (not (in_range s)) (silent s 7) (play_form s (line_form l)))).state ≡ true
+    go : (t : Bool) → in_range (cond t (silent s LittleRoom) (cond (not (in_range s)) (silent s OutOfRange) (play_form s (line_form l)))).state ≡ true
     go true = r
     go false = rw r (form_in_range s (line_form l) r)
 
@@ -148,15 +149,20 @@ line_end at e file h u =
 pub ahead_none : {o : Out} {l k : List ℕ} {r : Turn} (file : List ℕ) → Turned o l r k → Ahead file o l r k
 ahead_none {o} {l} {k} {r} file t = record { last = o; turns = length file; enough = omega arith; turned = t; play = rw add-one }
 
+-- a turn whose stage is known
+pub ahead_stage : {file l k : List ℕ} {o : Out} {t : Turn} {n : ℕ} → Ahead file o l t k → t.player.stage ≡ n
+    → Ahead file o l (turn t.refused t.length (standing t.player.at n t.player.state)) k
+ahead_stage {file} {l} {k} {o} {t} b e = subst (λ (m : ℕ). Ahead file o l (turn t.refused t.length (standing t.player.at m t.player.state)) k) e b
+
 -- a line more
-pub ahead_line : {file l k part : List ℕ} {o : Out} {number used at : ℕ} {s : State} {a : Answer} → Ahead file o l (turn number used (standing at 1 s)) k
+pub ahead_line : {file l k part : List ℕ} {o : Out} {f0 : Option Refusal} {used at : ℕ} {s : State} {a : Answer} {s1 : State} → Ahead file o l (turn f0 used (standing at 1 s)) k
     → in_range s ≡ true → used + 256 ≤ length k → at < length file
-    → Called (line_of (length (back used k)) s (front (drop at file))) (back used k) a part
+    → Called (line_of (length (back used k)) s (front (drop at file))) (back used k) a s1 part
     → Ahead file o l
-    (turn (cond (eqb a.number 0) number a.number) (used + a.length) (standing (at + until newline (drop at file) + 1) 1 a.state))
+    (turn (last f0 a.refused) (used + a.length) (standing (at + until newline (drop at file) + 1) 1 s1))
     (backed used k part)
 unfolding line_turn
-ahead_line {file} {l} {k} {part} {o} {number} {used} {at} {s} {a} b r h f d = go b.turns b.enough b.play
+ahead_line {file} {l} {k} {part} {o} {f0} {used} {at} {s} {a} {s1} b r h f d = go b.turns b.enough b.play
   where
     m : ℕ
     m = length (back used k)
@@ -169,7 +175,7 @@ ahead_line {file} {l} {k} {part} {o} {number} {used} {at} {s} {a} b r h f d = go
 
     go : (n : ℕ) → length file ≤ at + n → turns_of (length file + 1) (length l) file o ≡ turns_of (suc n) (length l) file b.last
         → Ahead file o l
-        (turn (cond (eqb a.number 0) number a.number) (used + a.length) (standing (at + until newline (drop at file) + 1) 1 a.state))
+        (turn (last f0 a.refused) (used + a.length) (standing (at + until newline (drop at file) + 1) 1 s1))
         (backed used k part)
     go zero e p = absurd (omega arith)
     go (suc n) e p =
@@ -185,14 +191,14 @@ ahead_line {file} {l} {k} {part} {o} {number} {used} {at} {s} {a} b r h f d = go
         }
 
 -- the end line
-pub ahead_end : {l k part : List ℕ} {o : Out} {number used at : ℕ} {s : State} {a : Answer} (file : List ℕ) (n : ℕ)
-    → Turned o l (turn number used (standing at 1 s)) k → in_range s ≡ true → used + 256 ≤ length k → length file ≤ at
-    → Called (end_of (length (back used k)) s) (back used k) a part
+pub ahead_end : {l k part : List ℕ} {o : Out} {f0 : Option Refusal} {used at : ℕ} {s : State} {a : Answer} {s1 : State} (file : List ℕ) (n : ℕ)
+    → Turned o l (turn f0 used (standing at 1 s)) k → in_range s ≡ true → used + 256 ≤ length k → length file ≤ at
+    → Called (end_of (length (back used k)) s) (back used k) a s1 part
     → Turned (turns_of (suc n) (length l) file o) l
-    (turn (cond (eqb a.number 0) number a.number) (used + a.length) (standing at 2 a.state))
+    (turn (last f0 a.refused) (used + a.length) (standing at 2 s1))
     (backed used k part)
 unfolding line_turn
-ahead_end {l} {k} {part} {o} {number} {used} {at} {s} {a} file n t r h f d =
+ahead_end {l} {k} {part} {o} {f0} {used} {at} {s} {a} {s1} file n t r h f d =
     let m = length (back used k) in
     rw (
       turn-follows file t r h n,

@@ -1,14 +1,20 @@
 -- A call of several turns: as many as surely fit into the room.
-use Rattle.std.specs.Prelude.{Bool, cond, not, ◌&&◌, List, ◌++◌, ℕ, zero, suc, ◌+◌, ◌-◌, eqb, length}
+use Rattle.std.specs.Prelude.{Bool, cond, not, ◌&&◌, List, ◌++◌, ℕ, zero, suc, ◌+◌, ◌-◌, eqb, length, Option, Some, None}
 use Rattle.rules.specs.Range.{in_range}
 use Rattle.sheet.specs.Sheet.{narrow}
 use Rattle.player.specs.Turns.{Out, turn_of}
 use Rattle.player.specs.declared.Player.{Player}
+use Rattle.rules.specs.declared.answer.Refusal.{Refusal}
 
--- a turn behind others: its line behind theirs, and the number of the last refused line
+-- the last refusal, if there is one
+abbrev pub last : Option Refusal → Option Refusal → Option Refusal
+last before None = before
+last before (Some r) = Some r
+
+-- a turn behind others: its line behind theirs, and the refusal of the last refused line
 abbrev pub behind : Out → Out → Out
 behind o q =
-    record { number = cond (eqb q.number 0) o.number q.number; sheet = o.sheet ++ q.sheet; player = q.player }
+    record { refused = last o.refused q.refused; sheet = o.sheet ++ q.sheet; player = q.player }
 
 -- another turn follows: the play is among the lines, its state is in range, and 256 bytes of the room are left
 abbrev pub goes_on : ℕ → Out → Bool

@@ -1,5 +1,5 @@
 -- What the calls of the player leave in the lent rooms, put together, is the sheet of the file.
-use Rattle.std.specs.Prelude.{Bool, cond, ◌≡◌, eqb, take, drop}
+use Rattle.std.specs.Prelude.{Bool, cond, ◌≡◌, eqb, take, drop, Option, Some, None, is_none}
 use Rattle.std.proofs.Math.Bool.{true, false, and-eq-true_iff}
 use mathlib.Core.List.{List, [], ◌∷◌, ◌++◌, append-nil, append_assoc}
 use Rattle.std.proofs.Math.Path.{refl, sym, ap}
@@ -10,6 +10,7 @@ use native.Mathlib.Omega.{arith}
 use borrow.Author.Tests.{lt-ltb, le-ltb, le-leb, lt-leb, ltb-false, not-true}
 use Rattle.std.proofs.Math.ListN.{length, length-append}
 use Rattle.std.proofs.Math.Seq.{length-sets}
+use Rattle.rules.specs.declared.state.Settings.{Settings}
 use Rattle.rules.specs.State.{fresh}
 use Rattle.rules.specs.List.{key_list_of}
 use Rattle.rules.specs.Range.{in_range}
@@ -21,12 +22,12 @@ use Rattle.forms.specs.Form.{is_first, settings_form, ranged, first_form, line_f
 use Rattle.forms.proofs.Form.{first_in_range}
 use Rattle.sheet.proofs.States.{begin_state, run_state}
 use Rattle.sheet.specs.Sheet.{narrow, refusal, first_played, first_of, play_form, play_lines, line_of, end_of, end_form, play_first, play_all, sheet_of}
-use Rattle.forms.specs.declared.First as First
 use Rattle.forms.specs.declared.Line as Line
-use Rattle.player.specs.Turns.{Out, standing, out, front, opened, first_turn, line_turn, turn_of, turn_fits, Turned, turned_read}
+use Rattle.player.specs.Turns.{Turn, Out, standing, out, front, opened, first_turn, line_turn, turn_of, turn_fits, Turned, turned_read}
 use Rattle.player.specs.Several.{behind, goes_on, turns_of, several_of}
 use Rattle.player.specs.declared.Player.{Player}
-use Rattle.player.specs.declared.Turn.{Turn}
+use Rattle.rules.specs.Refusals.{number}
+use Rattle.rules.specs.declared.answer.Refusal.TheVariants.{TooLong}
 
 -- ---- calls
 
@@ -76,11 +77,11 @@ pub record On (file : List ℕ) (p : Player) (xs : List ℕ) (o : Out) : Type 0 
 -- ---- one turn
 
 -- a line leaves a state in range
-pub form_in_range : (s : State) (f : Line.Line) → in_range s ≡ true → in_range (play_form s f).state ≡ true
+pub form_in_range : (s : State) (f : Option Line.Line) → in_range s ≡ true → in_range (play_form s f).state ≡ true
 unfolding play_form
-form_in_range s (Line.TheVariants.Begin t o k) h = rw begin_state (begin_in_range s t o k h)
-form_in_range s (Line.TheVariants.Steps t n) h = rw run_state (run_in_range s t n h)
-form_in_range s Line.TheVariants.Slip h = h
+form_in_range s (Some (Line.TheVariants.Begin t o k)) h = rw begin_state (begin_in_range s t o k h)
+form_in_range s (Some (Line.TheVariants.Steps t n)) h = rw run_state (run_in_range s t n h)
+form_in_range s None h = h
 
 play_all_lem : (l : List ℕ) (ls : List (List ℕ)) → play_all (l ∷ ls) ≡ play_first (first_form l) ls
 unfolding play_all
@@ -130,15 +131,15 @@ module _ (room : ℕ) (wide : 256 ≤ room) where
         ∙ ap (λ (m : List ℕ). front (drop at file) ∷ lines m) (drop-drop (suc u) at file ∙ ap (λ (m : ℕ). drop m file) e)
 
     -- the first call on a file that is not too long
-    turn-first : length file ≤ 60000 → (f : First.First) → first_form (front file) ≡ f
+    turn-first : length file ≤ 60000 → (f : Option Settings) → first_form (front file) ≡ f
         → turn_of room file opened
-        ≡ cond (eqb (first_played f).number 0) (out (first_played f) (until newline file + 1) 1) (out (first_played f) 0 2)
+        ≡ cond (is_none (first_played f).refused) (out (first_played f) (until newline file + 1) 1) (out (first_played f) 0 2)
     unfolding turn_of first_turn opened
     turn-first k f e = rw (wide_enough, le-ltb 60000 (length file) k, first-is (front file), e)
 
     -- on a file that is too long
     turn_long : 60000 < length file
-        → turn_of room file opened ≡ record { number = 12; sheet = refusal 12; player = standing 0 2 opened.state }
+        → turn_of room file opened ≡ record { refused = Some TooLong; sheet = refusal (number TooLong); player = standing 0 2 opened.state }
     unfolding turn_of first_turn opened
     turn_long k = rw (wide_enough, lt-ltb 60000 (length file) k)
 
@@ -155,18 +156,18 @@ module _ (room : ℕ) (wide : 256 ≤ room) where
             ∙ play_all_lem (front file) (lines (drop (until newline file + 1) file))
 
     -- the settings line
-    first_on : length file ≤ 60000 → (f : First.First) → first_form (front file) ≡ f → On file opened (sheet_of file) (turn_of room file opened)
+    first_on : length file ≤ 60000 → (f : Option Settings) → first_form (front file) ≡ f → On file opened (sheet_of file) (turn_of room file opened)
     unfolding first_played play_first turns_left opened
-    first_on short (First.TheVariants.Settings c) e =
-        rw (turn-first short (First.TheVariants.Settings c) e)
+    first_on short (Some c) e =
+        rw (turn-first short (Some c) e)
         (record {
           left = play_lines (fresh c) (lines (drop (until newline file + 1) file));
           sheet = rw (first-cut short, e);
           rest = among (until newline file + 1) (fresh c) refl (fresh_in_range c (first_in_range (front file) c e)) refl;
           fewer = omega arith;
         })
-    first_on short First.TheVariants.Slip e =
-        rw (turn-first short First.TheVariants.Slip e)
+    first_on short None e =
+        rw (turn-first short None e)
         (record {
           left = [];
           sheet = rw (first-cut short, e, append-nil);

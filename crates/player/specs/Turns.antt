@@ -1,5 +1,5 @@
 -- One call of the player: what it writes, and where the play stands then.
-use Rattle.std.specs.Prelude.{Bool, true, false, cond, List, [], ◌≡◌, refl, ℕ, ◌+◌, ◌≤◌, ltb, leb, eqb, length, take, drop}
+use Rattle.std.specs.Prelude.{Bool, true, false, cond, List, [], ◌≡◌, refl, ℕ, ◌+◌, ◌≤◌, ltb, leb, eqb, length, take, drop, Option, Some, None, is_none}
 use Rattle.std.proofs.Common.{sym, ◌∙◌, zero-le, arith, ltb-false}
 use Rattle.std.proofs.lemmas.List.Edits.{sets}
 use Rattle.rules.specs.State.{fresh}
@@ -12,11 +12,13 @@ use Rattle.sheet.specs.Called.{Called}
 use Rattle.sheet.proofs.Lengths.{refusal_short, line_fits, end_fits, first_fits}
 use Rattle.sheet.specs.declared.calls.Answer.{Answer}
 use Rattle.player.specs.declared.Player.{Player}
-use Rattle.player.specs.declared.Turn.{Turn}
+use Rattle.rules.specs.Refusals.{number}
+use Rattle.rules.specs.declared.answer.Refusal.{Refusal}
+use Rattle.rules.specs.declared.answer.Refusal.TheVariants.{LittleRoom, TooLong}
 
--- what a call gives: the refusal number or 0, the sheet line, and where the play stands then
+-- what a call gives: the last refusal, if there is one, the sheet line, and where the play stands then
 pub record Out : Type 0 where
-  pub number : ℕ
+  pub refused : Option Refusal
   pub sheet : List ℕ
   pub player : Player
 
@@ -30,7 +32,7 @@ opened = standing 0 0 (fresh zero_settings)
 
 -- what a line call did, and where the play stands then
 abbrev pub out : Played → ℕ → ℕ → Out
-out q at stage = record { number = q.number; sheet = q.sheet; player = standing at stage q.state }
+out q at stage = record { refused = q.refused; sheet = q.sheet; player = standing at stage q.state }
 
 -- a line of some bytes: those before the first newline
 abbrev pub front : List ℕ → List ℕ
@@ -43,8 +45,8 @@ first_play room file = first_of room (front file)
 -- "A file too long gives `X 12` alone"; the settings line, after which the lines follow or, if it is refused, nothing
 unfoldable pub first_turn : ℕ → List ℕ → Player → Out
 first_turn room file p =
-    cond (ltb 60000 (length file)) (record { number = 12; sheet = refusal 12; player = standing p.at 2 p.state })
-    (cond (eqb (first_play room file).number 0) (out (first_play room file) (until newline file + 1) 1) (out (first_play room file) p.at 2))
+    cond (ltb 60000 (length file)) (record { refused = Some TooLong; sheet = refusal (number TooLong); player = standing p.at 2 p.state })
+    (cond (is_none (first_play room file).refused) (out (first_play room file) (until newline file + 1) 1) (out (first_play room file) p.at 2))
 
 -- "one line for each schedule line, then `E`"
 unfoldable pub line_turn : ℕ → List ℕ → Player → Out
@@ -53,22 +55,32 @@ line_turn room file p =
     (out (line_of room p.state (front (drop p.at file))) (p.at + until newline (drop p.at file) + 1) 1)
 
 -- a call that writes nothing
-abbrev pub silently : ℕ → Player → Out
-silently n p = record { number = n; sheet = []; player = p }
+abbrev pub silently : Option Refusal → Player → Out
+silently f p = record { refused = f; sheet = []; player = p }
 
 -- one call; 9 for a room that is too small
 unfoldable pub turn_of : ℕ → List ℕ → Player → Out
 turn_of room file p =
-    cond (narrow room) (silently 9 p)
-    (cond (eqb p.stage 0) (first_turn room file p) (cond (eqb p.stage 1) (line_turn room file p) (silently 0 p)))
+    cond (narrow room) (silently (Some LittleRoom) p)
+    (cond (eqb p.stage 0) (first_turn room file p) (cond (eqb p.stage 1) (line_turn room file p) (silently None p)))
 
--- a turn with this number, line length and player
-abbrev pub turn : ℕ → ℕ → Player → Turn
-turn number size p = record { number = number; length = size; player = p }
+-- what a call answers, and where the play stands then
+pub record Turn : Type 0 where
+  pub refused : Option Refusal
+  pub length : ℕ
+  pub player : Player
 
--- the bytes l of the room became l', and r was answered: o's number, sheet line and player, and no other byte changed
+-- a turn with this refusal, if there is one, line length and player
+abbrev pub turn : Option Refusal → ℕ → Player → Turn
+turn f size p = record { refused = f; length = size; player = p }
+
+-- a turn by its answer
+abbrev pub turned_to : Answer → Player → Turn
+turned_to a p = turn a.refused a.length p
+
+-- the bytes l of the room became l', and r was answered: o's refusal, sheet line and player, and no other byte changed
 pub record Turned (o : Out) (l : List ℕ) (r : Turn) (l' : List ℕ) : Type 0 where
-  pub reply : r ≡ turn o.number (length o.sheet) o.player
+  pub reply : r ≡ turn o.refused (length o.sheet) o.player
   pub bytes : l' ≡ sets l 0 o.sheet
 
 -- two turns that the same call allows are equal, and so is each byte of the room
@@ -91,18 +103,18 @@ turn_fits room file p = go (narrow room) refl
   where
     first : 256 ≤ room → length (first_turn room file p).sheet ≤ room
     first h =
-        either_fits room (ltb 60000 (length file)) _ _ (omega (arith, refusal_short 12))
-        (either_fits room (eqb (first_play room file).number 0) _ _ (first_fits room (front file)) (first_fits room (front file)))
+        either_fits room (ltb 60000 (length file)) _ _ (omega (arith, refusal_short (number TooLong)))
+        (either_fits room (is_none (first_play room file).refused) _ _ (first_fits room (front file)) (first_fits room (front file)))
 
     line : length (line_turn room file p).sheet ≤ room
     line = either_fits room (leb (length file) p.at) _ _ (end_fits room p.state) (line_fits room p.state (front (drop p.at file)))
 
     go : (t : Bool) → narrow room ≡ t
-        → length (cond t (silently 9 p) (cond (eqb p.stage 0) (first_turn room file p) (cond (eqb p.stage 1) (line_turn room file p) (silently 0 p)))).sheet ≤ room
+        → length (cond t (silently (Some LittleRoom) p) (cond (eqb p.stage 0) (first_turn room file p) (cond (eqb p.stage 1) (line_turn room file p) (silently None p)))).sheet ≤ room
     go true h = zero-le
     go false h = either_fits room (eqb p.stage 0) _ _ (first (ltb-false room 256 h)) (either_fits room (eqb p.stage 1) _ _ line zero-le)
 
 -- what a line call did to the room is what the call of the player did
-pub turned_called : {q : Played} {l l' : List ℕ} {a : Answer} → Called q l a l' → (at stage : ℕ)
-    → Turned (out q at stage) l (turn a.number a.length (standing at stage a.state)) l'
-turned_called {q} {l} {l'} {a} c at stage = record { reply = rw c.reply; bytes = c.bytes }
+pub turned_called : {q : Played} {l l' : List ℕ} {a : Answer} {s : State} → Called q l a s l' → (at stage : ℕ)
+    → Turned (out q at stage) l (turn a.refused a.length (standing at stage s)) l'
+turned_called {q} {l} {l'} {a} c at stage = record { reply = rw (c.reply, c.state); bytes = c.bytes }

@@ -4,54 +4,25 @@
 ghost use Rattle.std.specs.Prelude.{◌≡◌, [], true, ◌≤◌, length, get_or};
 ghost use Rattle.text.specs.Text.{until, fields, is_letter, digits, value, is_number, number_of, number_values, number_says};
 
-use text::Number;
-
 // The index of the first b, or the length where there is none.
-#[tactic(auto, using(crate::proofs::Steps::until_next, crate::proofs::Steps::until_end))]
 pub fn until(text: &[u8], b: u8) -> usize
     ensures { result ≡ until b text.now }
 {
-    let mut i = 0;
-    while i < text.len() {
-        if text[i] == b {
-            return i;
-        }
-        i += 1;
-    }
-    i
+    text.iter().position(|x| *x == b).unwrap_or(text.len())
 }
 
 // How many fields a line has.
 pub fn field_count(text: &[u8]) -> usize
     ensures { result ≡ length (fields text.now) }
 {
-    let mut count: usize = 1;
-    let mut i = 0;
-    while i < text.len() {
-        if text[i] == 9 {
-            count += 1;
-        }
-        i += 1;
-    }
-    count
+    text.split(|b| *b == b'\t').count()
 }
 
 // Field i of a line: empty where there is none.
 pub fn field(text: &[u8], i: usize) -> &[u8]
     ensures { result.now ≡ get_or (fields text.now) i [] }
 {
-    let mut rest = text;
-    let mut left = i;
-    while 0 < left {
-        let end = until(rest, 9);
-        if end == rest.len() {
-            return &rest[end..];
-        }
-        rest = &rest[end + 1..];
-        left -= 1;
-    }
-    let end = until(rest, 9);
-    &rest[..end]
+    text.split(|b| *b == b'\t').nth(i).unwrap_or(&[])
 }
 
 // Whether a part is the letter b alone.
@@ -59,26 +30,17 @@ pub fn field(text: &[u8], i: usize) -> &[u8]
 pub fn is_letter(part: &[u8], b: u8) -> bool
     ensures { result ≡ is_letter b part.now }
 {
-    if part.len() == 1 { part[0] == b } else { false }
+    match part {
+        [x] => *x == b,
+        _ => false,
+    }
 }
 
 // Whether every byte of a part is a digit.
-#[tactic(auto, using(crate::proofs::Steps::digits_next, crate::proofs::Steps::digits_end))]
 fn digits(part: &[u8]) -> bool
     ensures { result ≡ digits part.now }
 {
-    let mut i = 0;
-    while i < part.len() {
-        let b = part[i];
-        if b < 48 {
-            return false;
-        }
-        if 57 < b {
-            return false;
-        }
-        i += 1;
-    }
-    true
+    part.iter().all(|b| b.is_ascii_digit())
 }
 
 // The value of at most 7 digits.
@@ -87,10 +49,8 @@ fn value(part: &[u8]) -> u32
     ensures { result ≡ value part.now }
 {
     let mut value: u32 = 0;
-    let mut i = 0;
-    while i < part.len() {
-        value = value * 10 + (part[i] - 48) as u32;
-        i += 1;
+    for b in part {
+        value = value * 10 + (*b - b'0') as u32;
     }
     value
 }
@@ -101,35 +61,24 @@ fn is_number(part: &[u8]) -> bool
     ensures { result ≡ is_number part.now }
 {
     let count = part.len();
-    if count < 1 {
-        return false;
-    }
-    if 7 < count {
-        return false;
-    }
-    if !digits(part) {
-        return false;
-    }
-    if count == 1 {
-        return true;
-    }
-    part[0] != 48
+    1 <= count && count <= 7 && digits(part) && (count == 1 || part[0] != b'0')
 }
 
 // What a part says as a number.
-pub fn number_of(part: &[u8]) -> Number
+#[tactic(auto, using(text::proofs::Reading::number_digits), unfolding(text::specs::Text::value_if))]
+pub fn number_of(part: &[u8]) -> Option<u32>
     ensures answer { result ≡ number_of part.now }
     ensures values { number_values result ≡ number_says part.now }
 {
     if is_number(part) {
-        Number::Value { value: value(part) }
+        Some(value(part))
     } else {
-        Number::Slip
+        None
     }
 }
 
 // What field i of a line says as a number.
-pub fn number_at(text: &[u8], i: usize) -> Number
+pub fn number_at(text: &[u8], i: usize) -> Option<u32>
     ensures answer { result ≡ number_of (get_or (fields text.now) i []) }
     ensures values { number_values result ≡ number_says (get_or (fields text.now) i []) }
 {

@@ -1,4 +1,4 @@
-// A thread with one register set.
+// A thread with one register set. One function over all registers would be no plainer: its caller would write the struct update in a closure.
 #![tactic(auto)]
 
 ghost use Rattle.std.specs.Prelude.{◌≡◌};
@@ -7,89 +7,81 @@ ghost use Rattle.rules.specs.Registers.{at_phase, set_prev, set_base, set_walk, 
 
 use rules::state::Thread;
 
+// A node register that names no node. No Option: the record holds a number, and any number gets an answer.
+const NONE: u8 = 128;
+
 pub fn at_phase(p: u8, t: Thread) -> Thread
     ensures { result ≡ at_phase p t }
 {
-    let mut u = t;
-    u.phase = p;
-    u
+    Thread { phase: p, ..t }
 }
 
 pub fn set_prev(n: u8, t: Thread) -> Thread
     ensures { result ≡ set_prev n t }
 {
-    let mut u = t;
-    u.prev = n;
-    u
+    Thread { prev: n, ..t }
 }
 
 pub fn set_base(n: u8, t: Thread) -> Thread
     ensures { result ≡ set_base n t }
 {
-    let mut u = t;
-    u.base = n;
-    u
+    Thread { base: n, ..t }
 }
 
 pub fn set_walk(n: u8, t: Thread) -> Thread
     ensures { result ≡ set_walk n t }
 {
-    let mut u = t;
-    u.walk = n;
-    u
+    Thread { walk: n, ..t }
 }
 
 pub fn set_neighbour(n: u8, t: Thread) -> Thread
     ensures { result ≡ set_neighbour n t }
 {
-    let mut u = t;
-    u.neighbour = n;
-    u
+    Thread { neighbour: n, ..t }
 }
 
 pub fn set_grandparent(n: u8, t: Thread) -> Thread
     ensures { result ≡ set_grandparent n t }
 {
-    let mut u = t;
-    u.grandparent = n;
-    u
+    Thread {
+        grandparent: n,
+        ..t
+    }
 }
 
 pub fn set_made(n: u8, t: Thread) -> Thread
     ensures { result ≡ set_made n t }
 {
-    let mut u = t;
-    u.made = n;
-    u
+    Thread { made: n, ..t }
 }
 
 pub fn set_side(w: bool, t: Thread) -> Thread
     ensures { result ≡ set_side w t }
 {
-    let mut u = t;
-    u.side = w;
-    u
+    Thread { side: w, ..t }
 }
 
 // The thread gets the operation, the key and phase 1.
 pub fn set_operation(o: u8, k: u8, t: Thread) -> Thread
     ensures { result ≡ set_operation o k t }
 {
-    let mut u = t;
-    u.operation = o;
-    u.key = k;
-    u.phase = 1;
-    u
+    Thread {
+        operation: o,
+        key: k,
+        phase: 1,
+        ..t
+    }
 }
 
 // The answer and the commit number.
 pub fn set_answer(a: u8, n: u32, t: Thread) -> Thread
     ensures { result ≡ set_answer a n t }
 {
-    let mut u = t;
-    u.answer = a;
-    u.commit = n;
-    u
+    Thread {
+        answer: a,
+        commit: n,
+        ..t
+    }
 }
 
 // A thread as fresh: idle, all zero or none.
@@ -100,12 +92,12 @@ pub fn fresh_thread() -> Thread
         phase: 0,
         operation: 0,
         key: 0,
-        prev: 128,
-        base: 128,
-        walk: 128,
-        neighbour: 128,
-        grandparent: 128,
-        made: 128,
+        prev: NONE,
+        base: NONE,
+        walk: NONE,
+        neighbour: NONE,
+        grandparent: NONE,
+        made: NONE,
         answer: 0,
         commit: 0,
         side: false,

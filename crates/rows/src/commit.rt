@@ -1,4 +1,6 @@
 // The commit of an operation at phase 5, and the decision that follows.
+#![tactic(auto, unfolding(rules::specs::Rows::commits, rules::specs::Rows::decides))]
+
 ghost use Rattle.std.specs.Prelude.{◌≡◌, ◌+◌, ◌<◌, ltb};
 ghost use Rattle.keys.specs.Keys.{size};
 ghost use Rattle.rules.specs.Places.{answer_of, keys_after};
@@ -8,42 +10,32 @@ use crate::plan;
 use rules::row::{Plan, View};
 use rules::state::Place;
 
-// The answer of operation `o` on a key that is or is not present.
+// The answer of operation `o` on a key that is or is not present. No enum: a thread's record may hold any number as its operation.
 fn answer_of(o: u8, present: bool) -> u8
     ensures { result ≡ answer_of o present }
 {
-    if o == 0 {
-        if present {
-            return 0;
-        }
-        return 1;
+    match o {
+        0 => u8::from(!present),
+        _ => u8::from(present),
     }
-    if present {
-        return 1;
-    }
-    0
 }
 
 // The keys after operation `o` on key `k`.
 fn keys_after(o: u8, ks: u64, k: u8) -> u64
     ensures { result ≡ keys_after o ks k }
 {
-    if o == 0 {
-        return keys::with(ks, k);
+    match o {
+        0 => keys::with(ks, k),
+        1 => keys::without(ks, k),
+        _ => ks,
     }
-    if o == 1 {
-        return keys::without(ks, k);
-    }
-    ks
 }
 
 // B's keys after the operation.
 pub(crate) fn keys_then(v: View) -> u64
     ensures { result ≡ keys_then v }
 {
-    let b = v.base;
-    let t = v.thread;
-    keys_after(t.operation, places::keys_of(b), t.key)
+    keys_after(v.thread.operation, places::keys_of(v.base), v.thread.key)
 }
 
 // B has fewer than 2 keys after the operation.
@@ -59,18 +51,13 @@ fn commits(v: View, p: u8, b: Place) -> Plan
     ensures { result ≡ commits v p b }
 {
     let next = v.committed + 1;
-    let before = v.base;
     let t = v.thread;
-    let present = keys::has(places::keys_of(before), t.key);
+    let present = keys::has(places::keys_of(v.base), t.key);
     let answered = registers::set_answer(answer_of(t.operation, present), next, t);
+    let stored = plan::at(t.base, b);
     Plan {
-        thread: registers::at_phase(p, answered),
-        root: v.root,
-        made: v.made,
         committed: next,
-        first: plan::at(t.base, b),
-        second: plan::no_store(),
-        third: plan::no_store(),
+        ..plan::stores(v, registers::at_phase(p, answered), stored)
     }
 }
 
@@ -81,16 +68,15 @@ pub(crate) fn decides(v: View, b: Place) -> Plan
 {
     if ready::above_max(v) {
         if few_then(v) {
-            return commits(v, 25, places::zero(b));
+            commits(v, 25, places::zero(b))
+        } else {
+            commits(v, 6, b)
         }
-        return commits(v, 6, b);
+    } else if !ready::below_min(v) {
+        commits(v, 25, b)
+    } else if v.thread.prev == places::NONE {
+        commits(v, 25, places::zero(b))
+    } else {
+        commits(v, 9, b)
     }
-    if ready::below_min(v) {
-        let p = v.thread.prev;
-        if p == 128 {
-            return commits(v, 25, places::zero(b));
-        }
-        return commits(v, 9, b);
-    }
-    commits(v, 25, b)
 }

@@ -1,4 +1,6 @@
 // The rows of a join up to its made base: phases 9 to 14.
+#![tactic(auto, unfolding(rules::specs::Rows::row9, rules::specs::Rows::row10, rules::specs::Rows::row11, rules::specs::Rows::no_join, rules::specs::Rows::join, rules::specs::Rows::row12, rules::specs::Rows::row13, rules::specs::Rows::row14))]
+
 ghost use Rattle.std.specs.Prelude.{◌≡◌, ◌≤◌};
 ghost use Rattle.rules.specs.Rows.{far_side, near_child, row9, row10, row11, no_join, join, row12, row13, row14};
 
@@ -11,61 +13,44 @@ use rules::state::Body;
 pub(crate) fn far_side(v: View) -> bool
     ensures { result ≡ far_side v }
 {
-    let q = v.prev;
-    let b = v.thread.base;
-    let left = places::child_on(false, q);
-    left == b
+    places::child_on(false, v.prev) == v.thread.base
 }
 
 // Walk's child in the near way.
 pub(crate) fn near_child(v: View) -> u8
     ensures { result ≡ near_child v }
 {
-    let w = v.walk;
-    let side = v.thread.side;
-    places::child_on(!side, w)
+    places::child_on(!v.thread.side, v.walk)
 }
 
 // Side fixed; walk = P's far child.
 pub(crate) fn row_9(v: View) -> Plan
     ensures { result ≡ row9 v }
 {
-    let t = v.thread;
-    let q = v.prev;
     let far = far_side(v);
-    plan::seeks(v, registers::set_side(far, t), places::child_on(far, q))
+    let t = registers::set_side(far, v.thread);
+    plan::seeks(v, t, places::child_on(far, v.prev))
 }
 
 // Walk = its child in the near way.
 pub(crate) fn row_10(v: View) -> Plan
     ensures { result ≡ row10 v }
 {
-    let t = v.thread;
-    plan::seeks(v, t, near_child(v))
+    plan::seeks(v, v.thread, near_child(v))
 }
 
-// N = walk. N held: B's statistics 0; free: take.
+// N = walk. N held: B's statistics 0; free: take. It stands by itself beside `takes`: the thread and the other way out differ.
 pub(crate) fn row_11(v: View) -> Plan
     ensures { result ≡ row11 v }
 {
-    let own = v.base;
-    let w = v.walk;
-    let t = v.thread;
-    let u = registers::set_neighbour(t.walk, t);
-    if places::is_free(w) {
-        let l = w.lock;
-        let taken = lock::try_lock(v.me, l);
-        return plan::stores_1(
-            v,
-            registers::at_phase(12, u),
-            plan::at(t.walk, places::with_lock(taken, w)),
-        );
+    let t = registers::set_neighbour(v.thread.walk, v.thread);
+    if places::is_free(v.walk) {
+        let taken = places::with_lock(lock::try_lock(v.me, v.walk.lock), v.walk);
+        plan::stores(v, registers::at_phase(12, t), plan::at(t.walk, taken))
+    } else {
+        let zeroed = plan::at(t.base, places::zero(v.base));
+        plan::stores(v, registers::at_phase(25, t), zeroed)
     }
-    plan::stores_1(
-        v,
-        registers::at_phase(25, u),
-        plan::at(t.base, places::zero(own)),
-    )
 }
 
 // Release N, B's statistics 0: the same place where B is N.
@@ -73,24 +58,17 @@ fn no_join(v: View) -> Plan
     ensures { result ≡ no_join v }
 {
     let t = v.thread;
-    let b = v.base;
-    let n = v.neighbour;
-    let free = places::release(n);
-    let stored = plan::at(t.neighbour, free);
-    if t.base == t.neighbour {
-        return plan::stores_2(
-            v,
-            registers::at_phase(25, t),
-            stored,
-            plan::at(t.base, places::zero(free)),
-        );
+    let released = places::release(v.neighbour);
+    let base = if t.base == t.neighbour {
+        released
+    } else {
+        v.base
+    };
+    Plan {
+        first: Some(plan::at(t.neighbour, released)),
+        second: Some(plan::at(t.base, places::zero(base))),
+        ..plan::goes(v, 25)
     }
-    plan::stores_2(
-        v,
-        registers::at_phase(25, t),
-        stored,
-        plan::at(t.base, places::zero(b)),
-    )
 }
 
 // Make a base with the keys of B and N.
@@ -98,21 +76,12 @@ fn join(v: View) -> Plan
     requires { v.made ≤ 127 }
     ensures { result ≡ join v }
 {
-    let at = v.made;
-    let made = at + 1;
-    let b = v.base;
-    let n = v.neighbour;
-    let t = v.thread;
-    let ks = keys::union(places::keys_of(b), places::keys_of(n));
-    let both = places::new_node(Body::Base { keys: ks });
+    let keys = keys::union(places::keys_of(v.base), places::keys_of(v.neighbour));
+    let both = places::new_node(Body::Base { keys });
+    let t = registers::at_phase(13, registers::set_made(v.made, v.thread));
     Plan {
-        thread: registers::at_phase(13, registers::set_made(at, t)),
-        root: v.root,
-        made,
-        committed: v.committed,
-        first: plan::at(at, both),
-        second: plan::no_store(),
-        third: plan::no_store(),
+        made: v.made + 1,
+        ..plan::stores(v, t, plan::at(v.made, both))
     }
 }
 
@@ -120,48 +89,30 @@ fn join(v: View) -> Plan
 pub(crate) fn row_12(v: View) -> Plan
     ensures { result ≡ row12 v }
 {
-    let n = v.neighbour;
-    let made = v.made;
-    if n.valid {
-        if 127 < made {
-            return no_join(v);
-        }
-        return join(v);
+    if v.neighbour.valid && v.made <= 127 {
+        join(v)
+    } else {
+        no_join(v)
     }
-    no_join(v)
 }
 
 // P free: take; held: waits.
 pub(crate) fn row_13(v: View) -> Plan
     ensures { result ≡ row13 v }
 {
-    let q = v.prev;
-    let t = v.thread;
-    if places::is_free(q) {
-        let l = q.lock;
-        let taken = lock::try_lock(v.me, l);
-        return plan::stores_1(
-            v,
-            registers::at_phase(14, t),
-            plan::at(t.prev, places::with_lock(taken, q)),
-        );
-    }
-    plan::goes(v, 13)
+    let taken = lock::try_lock(v.me, v.prev.lock);
+    let p = plan::at(v.thread.prev, v.prev);
+    plan::takes(v, p, taken, 14, 13)
 }
 
 // P, N, B invalid.
 pub(crate) fn row_14(v: View) -> Plan
     ensures { result ≡ row14 v }
 {
-    let q = v.prev;
-    let n = v.neighbour;
-    let b = v.base;
-    let t = v.thread;
-    plan::stores_3(
-        v,
-        registers::at_phase(15, t),
-        plan::at(t.prev, places::invalid(q)),
-        plan::at(t.neighbour, places::invalid(n)),
-        plan::at(t.base, places::invalid(b)),
-    )
+    Plan {
+        first: Some(plan::at(v.thread.prev, places::invalid(v.prev))),
+        second: Some(plan::at(v.thread.neighbour, places::invalid(v.neighbour))),
+        third: Some(plan::at(v.thread.base, places::invalid(v.base))),
+        ..plan::goes(v, 15)
+    }
 }

@@ -1,112 +1,111 @@
 // What a row changes, put together.
-ghost use Rattle.std.specs.Prelude.{◌≡◌};
-ghost use Rattle.rules.specs.Rows.{no_store, stores3, stores2, stores1, only, goes, hangs, searches, seeks};
+#![tactic(auto, unfolding(rules::specs::Rows::hangs, rules::specs::Rows::searches, rules::specs::Rows::seeks))]
 
+ghost use Rattle.std.specs.Prelude.{◌≡◌, cond, Some};
+ghost use Rattle.rules.specs.Registers.{at_phase, set_walk};
+ghost use Rattle.rules.specs.Places.{is_free, with_lock};
+ghost use Rattle.rules.specs.Rows.{stores1, only, goes, hangs, searches, seeks};
+
+use places::NONE;
 use rules::row::{Plan, Store, View};
-use rules::state::{Body, Lock, Place, Thread};
+use rules::state::{Lock, Place, Thread};
 
-// A place to be stored.
+// The place of node `n`, as read or to be stored.
 pub(crate) fn at(n: u8, p: Place) -> Store
-    ensures { result ≡ Rattle.rules.specs.Rows.at n p }
+    ensures { Some result ≡ Rattle.rules.specs.Rows.at n p }
 {
     Store { at: n, place: p }
-}
-
-pub(crate) fn no_store() -> Store
-    ensures { result ≡ no_store }
-{
-    Store {
-        at: 128,
-        place: Place {
-            lock: Lock {
-                holder: 0,
-                statistics: 0,
-            },
-            valid: false,
-            body: Body::Base { keys: 0 },
-        },
-    }
-}
-
-pub(crate) fn stores_3(v: View, t: Thread, a: Store, b: Store, c: Store) -> Plan
-    ensures { result ≡ stores3 v t a b c }
-{
-    Plan {
-        thread: t,
-        root: v.root,
-        made: v.made,
-        committed: v.committed,
-        first: a,
-        second: b,
-        third: c,
-    }
-}
-
-pub(crate) fn stores_2(v: View, t: Thread, a: Store, b: Store) -> Plan
-    ensures { result ≡ stores2 v t a b }
-{
-    stores_3(v, t, a, b, no_store())
-}
-
-pub(crate) fn stores_1(v: View, t: Thread, a: Store) -> Plan
-    ensures { result ≡ stores1 v t a }
-{
-    stores_3(v, t, a, no_store(), no_store())
 }
 
 // The thread alone.
 pub(crate) fn only(v: View, t: Thread) -> Plan
     ensures { result ≡ only v t }
 {
-    stores_3(v, t, no_store(), no_store(), no_store())
+    Plan {
+        thread: t,
+        root: v.root,
+        made: v.made,
+        committed: v.committed,
+        first: None,
+        second: None,
+        third: None,
+    }
+}
+
+// The thread and one place.
+pub(crate) fn stores(v: View, t: Thread, a: Store) -> Plan
+    ensures { result ≡ stores1 v t (Some a) }
+{
+    Plan {
+        first: Some(a),
+        ..only(v, t)
+    }
+}
+
+// The phase and one place.
+pub(crate) fn puts(v: View, p: u8, a: Store) -> Plan
+    ensures { result ≡ stores1 v (at_phase p v.thread) (Some a) }
+{
+    stores(v, registers::at_phase(p, v.thread), a)
 }
 
 // The phase alone.
 pub(crate) fn goes(v: View, p: u8) -> Plan
     ensures { result ≡ goes v p }
 {
-    let t = v.thread;
-    only(v, registers::at_phase(p, t))
+    only(v, registers::at_phase(p, v.thread))
 }
 
-// `new` takes the place of `x` under the route `q`, whose number is `y`, or as root if `y` is none.
-pub(crate) fn hangs(v: View, t: Thread, new: u8, x: u8, y: u8, q: Place) -> Plan
-    ensures { result ≡ hangs v t new x y q }
+// `node` free: its lock as taken, and phase `then`; held: phase `held`.
+pub(crate) fn takes(v: View, node: Store, taken: Lock, then: u8, held: u8) -> Plan
+    ensures { result ≡ cond (is_free node.place)
+        (stores1 v (at_phase then v.thread) (Rattle.rules.specs.Rows.at node.at (with_lock taken node.place)))
+        (goes v held) }
 {
-    if y == 128 {
-        return Plan {
-            thread: t,
-            root: new,
-            made: v.made,
-            committed: v.committed,
-            first: no_store(),
-            second: no_store(),
-            third: no_store(),
-        };
+    if places::is_free(node.place) {
+        let taken = places::with_lock(taken, node.place);
+        puts(v, then, at(node.at, taken))
+    } else {
+        goes(v, held)
     }
-    stores_1(v, t, at(y, places::takes_place(x, new, q)))
+}
+
+// `new` takes the place of `x` under the route `y`, or as root if `y` is none.
+pub(crate) fn hangs(v: View, t: Thread, new: u8, x: u8, y: Store) -> Plan
+    ensures { result ≡ hangs v t new x y.at y.place }
+{
+    if y.at == NONE {
+        Plan {
+            root: new,
+            ..only(v, t)
+        }
+    } else {
+        stores(v, t, at(y.at, places::takes_place(x, new, y.place)))
+    }
+}
+
+// Walk = `w`, and phase `p`.
+pub(crate) fn walks(v: View, t: Thread, w: u8, p: u8) -> Plan
+    ensures { result ≡ only v (at_phase p (set_walk w t)) }
+{
+    only(v, registers::at_phase(p, registers::set_walk(w, t)))
 }
 
 // The search's walk goes to `w`.
 pub(crate) fn searches(v: View, t: Thread, w: u8) -> Plan
     ensures { result ≡ searches v t w }
 {
-    let p = v.reached;
-    let u = registers::set_walk(w, t);
-    if places::is_route(p) {
-        return only(v, registers::at_phase(2, u));
+    if places::is_route(v.reached) {
+        walks(v, t, w, 2)
+    } else {
+        walks(v, registers::set_base(w, t), w, 3)
     }
-    only(v, registers::at_phase(3, registers::set_base(w, u)))
 }
 
-// The walk to the neighbour goes to `w`.
+// The walk to the neighbour goes to `w`. One function for this and `searches` would take both phases and what else to set: no plainer.
 pub(crate) fn seeks(v: View, t: Thread, w: u8) -> Plan
     ensures { result ≡ seeks v t w }
 {
-    let p = v.reached;
-    let u = registers::set_walk(w, t);
-    if places::is_route(p) {
-        return only(v, registers::at_phase(10, u));
-    }
-    only(v, registers::at_phase(11, u))
+    let phase = if places::is_route(v.reached) { 10 } else { 11 };
+    walks(v, t, w, phase)
 }

@@ -1,4 +1,6 @@
 // The rows of a split: phases 6 to 8.
+#![tactic(auto, unfolding(rules::specs::Rows::no_split, rules::specs::Rows::split, rules::specs::Rows::row6, rules::specs::Rows::row7, rules::specs::Rows::row8))]
+
 ghost use Rattle.std.specs.Prelude.{◌≡◌, ◌≤◌};
 ghost use Rattle.rules.specs.Rows.{no_split, split, row6, row7, row8};
 
@@ -10,13 +12,7 @@ use rules::state::Body;
 fn no_split(v: View) -> Plan
     ensures { result ≡ no_split v }
 {
-    let b = v.base;
-    let t = v.thread;
-    plan::stores_1(
-        v,
-        registers::at_phase(25, t),
-        plan::at(t.base, places::zero(b)),
-    )
+    plan::puts(v, 25, plan::at(v.thread.base, places::zero(v.base)))
 }
 
 // Make left base, right base, route in that order.
@@ -27,26 +23,22 @@ fn split(v: View) -> Plan
     let left = v.made;
     let right = left + 1;
     let route = left + 2;
-    let made = left + 3;
-    let b = v.base;
-    let t = v.thread;
-    let ks = places::keys_of(b);
+    let ks = places::keys_of(v.base);
     let key = keys::split_key(ks);
-    let low = places::new_node(Body::Base {
+    let low = Body::Base {
         keys: keys::below(ks, key),
-    });
-    let high = places::new_node(Body::Base {
+    };
+    let high = Body::Base {
         keys: keys::from(ks, key),
-    });
-    let top = places::new_node(Body::Route { key, left, right });
+    };
+    let top = Body::Route { key, left, right };
+    let t = registers::at_phase(7, registers::set_made(route, v.thread));
     Plan {
-        thread: registers::at_phase(7, registers::set_made(route, t)),
-        root: v.root,
-        made,
-        committed: v.committed,
-        first: plan::at(left, low),
-        second: plan::at(right, high),
-        third: plan::at(route, top),
+        made: left + 3,
+        first: Some(plan::at(left, places::new_node(low))),
+        second: Some(plan::at(right, places::new_node(high))),
+        third: Some(plan::at(route, places::new_node(top))),
+        ..plan::only(v, t)
     }
 }
 
@@ -54,31 +46,20 @@ fn split(v: View) -> Plan
 pub(crate) fn row_6(v: View) -> Plan
     ensures { result ≡ row6 v }
 {
-    let made = v.made;
-    if 125 < made {
-        return no_split(v);
-    }
-    split(v)
+    if v.made <= 125 { split(v) } else { no_split(v) }
 }
 
 // The new route takes B's place under P, or as root if P is none.
 pub(crate) fn row_7(v: View) -> Plan
     ensures { result ≡ row7 v }
 {
-    let t = v.thread;
-    let q = v.prev;
-    plan::hangs(v, registers::at_phase(8, t), t.made, t.base, t.prev, q)
+    let t = registers::at_phase(8, v.thread);
+    plan::hangs(v, t, t.made, t.base, plan::at(t.prev, v.prev))
 }
 
 // B invalid.
 pub(crate) fn row_8(v: View) -> Plan
     ensures { result ≡ row8 v }
 {
-    let b = v.base;
-    let t = v.thread;
-    plan::stores_1(
-        v,
-        registers::at_phase(25, t),
-        plan::at(t.base, places::invalid(b)),
-    )
+    plan::puts(v, 25, plan::at(v.thread.base, places::invalid(v.base)))
 }

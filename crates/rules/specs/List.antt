@@ -1,15 +1,15 @@
 -- "Reachable bases are listed from the left child down to each leaf, then the right."
-use Rattle.std.specs.Prelude.{true, false, not, List, [], ◌∷◌, ℕ, zero, suc, ◌-◌, ◌%◌, get_or, set, replicate}
+use Rattle.std.specs.Prelude.{true, false, not, List, [], ◌∷◌, ℕ, zero, suc, ◌-◌, ◌%◌, get_or, set, replicate, Result, Ok, Err}
 use Rattle.keys.specs.Keys.{union}
 use Rattle.rules.specs.State.{zero_place}
 use Rattle.rules.specs.Range.{in_range}
-use Rattle.rules.specs.Refusals.{Refusal, ◌if◌, first}
+use Rattle.rules.specs.Refusals.{Ground, ◌if◌, first}
 use Rattle.rules.specs.declared.state.Body.TheVariants.{Base, Route}
 use Rattle.rules.specs.declared.state.Place.{Place}
 use Rattle.rules.specs.declared.state.State.{State}
 use Rattle.rules.specs.declared.list.Met.{Met}
-use Rattle.rules.specs.declared.answer.ListReply.{ListReply}
-use Rattle.rules.specs.declared.answer.ListReply.TheVariants.{Keys, Refused}
+use Rattle.rules.specs.declared.answer.Refusal.{Refusal}
+use Rattle.rules.specs.declared.answer.Refusal.TheVariants.{OutOfRange, Stuck}
 
 -- nothing is met yet
 unfoldable pub unmet : Met
@@ -49,9 +49,9 @@ unfoldable pub reached : State → Met
 reached s = gather 129 s.places s.root unmet
 
 -- "key list 7, 8"
-abbrev pub list_order : State → List Refusal
-list_order s = (7 if not (in_range s)) ∷ (8 if (reached s).twice) ∷ []
+abbrev pub list_order : State → List Ground
+list_order s = (OutOfRange if not (in_range s)) ∷ (Stuck if (reached s).twice) ∷ []
 
 -- the key list
-unfoldable pub key_list_of : State → ListReply
-key_list_of s = first (list_order s) Refused (Keys (reached s).keys)
+unfoldable pub key_list_of : State → Result ℕ Refusal
+key_list_of s = first (list_order s) Err (Ok (reached s).keys)

@@ -1,8 +1,8 @@
 -- "Phases": one definition a row. v is what the step reads: `v.base` is the place of B, `v.thread.base` its number, and so for P (prev),
 -- N (neighbour), G (grandparent), walk, and the made node (own). A row that is not stuck has these as it needs them.
-use Rattle.std.specs.Prelude.{Bool, false, cond, not, ◌||◌, List, [], ◌∷◌, ℕ, ◌+◌, ltb, eqb, get_or}
+use Rattle.std.specs.Prelude.{Bool, false, cond, not, ◌||◌, List, [], ◌∷◌, ℕ, ◌+◌, ltb, eqb, get_or, Option, Some, None}
 use Rattle.keys.specs.Keys.{has, union, below, from, size, split_key}
-use Rattle.rules.specs.State.{none, zero_statistics, fresh_thread, new_node, zero_place}
+use Rattle.rules.specs.State.{none, zero_statistics, fresh_thread, new_node}
 use Rattle.rules.specs.Registers.{at_phase, set_prev, set_base, set_walk, set_neighbour, set_grandparent, set_made, set_side, set_answer}
 use Rattle.rules.specs.Places.{is_route, keys_of, route_key, child_on, child_by, takes_place, is_free, with_lock, tried, taken3, taken4, release, zero, invalid, with_keys, answer_of, keys_after}
 use Rattle.rules.specs.declared.state.Body.TheVariants.{Base, Route}
@@ -15,24 +15,24 @@ use Rattle.rules.specs.declared.row.Plan.{Plan}
 -- ---- what a row may change
 
 -- a place to be stored at node n
-abbrev pub at : ℕ → Place → Store
-at n p = record { at = n; place = p }
+abbrev pub at : ℕ → Place → Option Store
+at n p = Some (record { at = n; place = p })
 
 -- nothing is stored
-abbrev pub no_store : Store
-no_store = at none zero_place
+abbrev pub no_store : Option Store
+no_store = None
 
 -- three places
-abbrev pub stores3 : View → Thread → Store → Store → Store → Plan
+abbrev pub stores3 : View → Thread → Option Store → Option Store → Option Store → Plan
 stores3 v t a b c =
     record { thread = t; root = v.root; made = v.made; committed = v.committed; first = a; second = b; third = c }
 
 -- two places
-abbrev pub stores2 : View → Thread → Store → Store → Plan
+abbrev pub stores2 : View → Thread → Option Store → Option Store → Plan
 stores2 v t a b = stores3 v t a b no_store
 
 -- one place
-abbrev pub stores1 : View → Thread → Store → Plan
+abbrev pub stores1 : View → Thread → Option Store → Plan
 stores1 v t a = stores3 v t a no_store no_store
 
 -- the thread alone

@@ -1,6 +1,7 @@
 // The walk that lists the keys of the reachable bases.
 
 // What the walk has met: whether a node was met twice, how many nodes are not yet met, the keys listed, and the nodes seen.
+// `twice` stands beside them, and no Option round them: `keeps` of runs reads the nodes seen in any state, met twice or not.
 #[derive(Clone, Copy)]
 pub struct Met {
     pub twice: bool,

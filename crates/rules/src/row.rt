@@ -21,7 +21,7 @@ pub struct View {
     pub reached: Place,
 }
 
-// A place to be stored at a node number; 128 stores nothing.
+// A place to be stored at a node number.
 #[derive(Clone, Copy)]
 pub struct Store {
     pub at: u8,
@@ -35,7 +35,7 @@ pub struct Plan {
     pub root: u8,
     pub made: u8,
     pub committed: u32,
-    pub first: Store,
-    pub second: Store,
-    pub third: Store,
+    pub first: Option<Store>,
+    pub second: Option<Store>,
+    pub third: Option<Store>,
 }

@@ -1,5 +1,6 @@
-// The records of the state. A node register is a node number, or 128 for none.
-// A lock holder is a thread number, or 8 for none.
+// The records of the state. A node register is a node number, or 128 for none. A lock holder is a thread number, or 8 for none.
+// Phase, operation, registers and holders stay numbers: a caller may hold any, `in_range` says which are right, and refusal 7 answers for the
+// others; `plan_of` decides over phase numbers. The pool stays an array and a node a number: fixed memory, and no heap.
 
 // The settings of a run. `low` is how far min lies below 0.
 #[derive(Clone, Copy)]

@@ -1,9 +1,11 @@
 -- Calls one after the other: begins, steps and counted steps with any numbers, accepted or refused; and the moves that they come to.
-use Rattle.std.specs.Prelude.{Bool, List, [], ◌∷◌, ◌++◌, ℕ, zero, suc, eqb}
+use Rattle.std.specs.Prelude.{Bool, List, [], ◌∷◌, ◌++◌, ℕ, zero, suc, eqb, Ok, Err, Result}
 use Rattle.rules.specs.Step.{begin_of, step_of, run_of}
-use Rattle.rules.specs.Answers.{begin_number, step_number}
 use Rattle.rules.specs.declared.state.State.{State}
+use Rattle.rules.specs.declared.answer.Refusal.{Refusal}
+use Rattle.rules.specs.declared.answer.RunReply.{RunReply}
 use Rattle.rules.specs.declared.answer.RunReply as RunReply
+use Rattle.rules.specs.Refusals.{reply_number}
 
 -- a move: thread t begins operation o on key k, or takes one step
 pub data Move : Type 0 where
@@ -22,11 +24,11 @@ after_moves s (c ∷ cs) = after_moves (after_move s c) cs
 
 -- the begin is accepted
 abbrev pub is_begun : State → ℕ → ℕ → ℕ → Bool
-is_begun s t o k = eqb (begin_number (begin_of s t o k).reply) 0
+is_begun s t o k = eqb (reply_number (begin_of s t o k).reply) 0
 
 -- the step of thread t is accepted
 abbrev pub accepted : State → ℕ → Bool
-accepted s t = eqb (step_number (step_of s t).reply) 0
+accepted s t = eqb (reply_number (step_of s t).reply) 0
 
 -- a move n times
 unfoldable pub times : ℕ → Move → List Move
@@ -34,10 +36,10 @@ times zero c = []
 times (suc n) c = c ∷ times n c
 
 -- the steps that a reply to counted steps says were taken
-abbrev pub taken_by : RunReply.RunReply → ℕ
-taken_by (RunReply.TheVariants.Stops n p) = n
-taken_by (RunReply.TheVariants.Ends n a c) = n
-taken_by (RunReply.TheVariants.Refused n) = 0
+abbrev pub taken_by : Result RunReply Refusal → ℕ
+taken_by (Ok (RunReply.TheVariants.Stops n p)) = n
+taken_by (Ok (RunReply.TheVariants.Ends n a c)) = n
+taken_by (Err r) = 0
 
 -- a call: a move, or counted steps: thread t is to take n of them
 pub data Call : Type 0 where

@@ -1,26 +1,25 @@
 -- Demand 3, sentence by sentence: what is to hold after any calls from a fresh state.
-use Rattle.std.specs.Prelude.{true, false, List, ◌≡◌, ℕ, ◌≤◌, ◌<◌, length, get_or}
+use Rattle.std.specs.Prelude.{true, false, List, ◌≡◌, ℕ, ◌≤◌, ◌<◌, length, get_or, Ok}
 use Rattle.keys.specs.Keys.{has, list_of}
 use Rattle.rules.specs.State.{fresh, place_at, thread_at}
 use Rattle.rules.specs.Places.{is_route, is_base, keys_of, route_key, child_on}
 use Rattle.rules.specs.Range.{settings_in_range}
 use Rattle.rules.specs.Step.{step_of, run_of}
 use Rattle.rules.specs.List.{reached, key_list_of}
-use Rattle.rules.specs.Answers.{step_number, run_number, list_number}
 use Rattle.rules.specs.declared.state.Settings.{Settings}
 use Rattle.rules.specs.declared.state.State.{State}
-use Rattle.rules.specs.declared.answer.ListReply as ListReply
 use Rattle.runs.specs.Calls.{Call, moves_of}
 use Rattle.runs.specs.Passes.{one, passed}
 use Rattle.runs.specs.PlainSet.{PlainSet, empty, keys_in}
 use Rattle.runs.specs.Log.{Entry, play_log, Right}
 use Rattle.runs.specs.Events.{Event, commits_in, nothing_due, Fits, due_after, due_of}
 use Rattle.runs.specs.Holders.{Reaches, Quiet, holders}
+use Rattle.rules.specs.Refusals.{reply_number}
 
 -- the key list is accepted; a key is listed exactly if it is in the plain set p; so the listed keys, rising, are those of p
 pub record ListsThe (p : PlainSet) (s : State) : Type 0 where
   pub keys : ℕ
-  pub accepted : key_list_of s ≡ ListReply.TheVariants.Keys keys
+  pub accepted : key_list_of s ≡ Ok keys
   pub exactly : (j : ℕ) → has keys j ≡ p j
   pub rising : list_of keys ≡ keys_in p
 
@@ -55,6 +54,6 @@ pub record Demand3 (c : Settings) (cs : List Call) (s : State) (events : List Ev
   -- no walk passes more than 42 routes
   pub routes : (t : ℕ) → passed t (fresh c) (moves_of (fresh c) cs) 0 ≤ 42
   -- no step, no counted steps and no key list is refused with 8
-  pub steps : (t : ℕ) → step_number (step_of s t).reply ≡ 8 → ⊥
-  pub counts : (t n : ℕ) → run_number (run_of s t n).reply ≡ 8 → ⊥
-  pub list : list_number (key_list_of s) ≡ 8 → ⊥
+  pub steps : (t : ℕ) → reply_number (step_of s t).reply ≡ 8 → ⊥
+  pub counts : (t n : ℕ) → reply_number (run_of s t n).reply ≡ 8 → ⊥
+  pub list : reply_number (key_list_of s) ≡ 8 → ⊥

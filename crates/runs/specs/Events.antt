@@ -1,12 +1,14 @@
 -- Begins, commits and ends in their order, and where the operation of each thread stands.
-use Rattle.std.specs.Prelude.{cond, ◌&&◌, List, [], ◌∷◌, ◌≡◌, ℕ, leb, eqb}
+use Rattle.std.specs.Prelude.{cond, ◌&&◌, List, [], ◌∷◌, ◌≡◌, ℕ, leb, eqb, Ok, Err, Result}
 use Rattle.rules.specs.State.{thread_at}
 use Rattle.rules.specs.Step.{after, step_of}
 use Rattle.rules.specs.declared.state.Thread.{Thread}
 use Rattle.rules.specs.declared.state.State.{State}
-use Rattle.rules.specs.declared.answer.StepReply as StepReply
 use Rattle.runs.specs.Calls.{Move, begins, steps, after_move, is_begun, accepted}
 use Rattle.runs.specs.Log.{commits_now, Entry, entry_of, replied}
+use Rattle.rules.specs.declared.answer.Refusal.{Refusal}
+use Rattle.rules.specs.declared.answer.StepReply.{StepReply}
+use Rattle.rules.specs.declared.answer.StepReply as StepReply
 
 -- thread t begins operation o on key k; an operation commits; one ends with this reply
 pub data Event : Type 0 where
@@ -15,10 +17,10 @@ pub data Event : Type 0 where
   finish : Entry → Event
 
 -- the events l behind a step of thread n, whose registers were t: only a reply that ends the operation is one
-abbrev pub finished : ℕ → Thread → StepReply.StepReply → List Event → List Event
-finished n t (StepReply.TheVariants.Ends a m) l = finish (replied n t a m) ∷ l
-finished n t (StepReply.TheVariants.Goes p) l = l
-finished n t (StepReply.TheVariants.Refused m) l = l
+abbrev pub finished : ℕ → Thread → Result StepReply Refusal → List Event → List Event
+finished n t (Ok (StepReply.TheVariants.Ends a m)) l = finish (replied n t a m) ∷ l
+finished n t (Ok (StepReply.TheVariants.Goes p)) l = l
+finished n t (Err r) l = l
 
 -- the accepted begins, the commits and the ends of some moves, in their order
 unfoldable pub events_of : State → List Move → List Event

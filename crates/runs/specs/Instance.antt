@@ -1,10 +1,9 @@
 -- Example D as a run: demand 3 speaks of something. Seven operations are committed. Thread 0 has spliced and not linked: key 2 of the plain set
 -- is in its base register alone, so the key list lacks it. And two joins that cross.
-use Rattle.std.specs.Prelude.{List, [], ◌∷◌, ◌++◌, map, ◌≡◌, ℕ, ◌+◌}
+use Rattle.std.specs.Prelude.{List, [], ◌∷◌, ◌++◌, map, ◌≡◌, ℕ, ◌+◌, Ok}
 use Rattle.keys.specs.Keys.{list_of}
 use Rattle.rules.specs.declared.state.Settings.{Settings}
 use Rattle.rules.specs.declared.state.State.{State}
-use Rattle.rules.specs.declared.answer.ListReply.TheVariants.{Keys}
 use Rattle.rules.specs.State.{fresh, thread_at}
 use Rattle.runs.specs.Calls.{Move, begins, steps, after_moves, times}
 use Rattle.runs.specs.Passes.{passed}
@@ -54,7 +53,7 @@ pub record Seen (s : State) (log : List Entry) : Type 0 where
   pub stands : due_after nothing_due (events_of (fresh example_settings) example_d) 0 ≡ done (record { thread = 0; operation = 2; key = 2; answer = 1; number = 7 })
   pub routes : passed 0 (fresh example_settings) example_d 0 ≡ 1
   -- "Phase 23 using the parent that N had at phase 9: the splice may have changed it": four steps later 2, 5, 7 and 9 are listed, as in example C
-  pub linked : key_list_of (after_moves s (times 4 (steps 0))) ≡ Keys 676
+  pub linked : key_list_of (after_moves s (times 4 (steps 0))) ≡ Ok 676
 
 -- `R 1 2 -1 0`
 abbrev pub cross_settings : Settings
@@ -90,5 +89,5 @@ crossing =
 -- "Skipping phase 18: G may itself have been spliced out": key 1 is held once, at the end 1 to 6 are listed, and thread 0 looks for G again
 pub record Crossed (s : State) : Type 0 where
   pub count : holders s 1 ≡ 1
-  pub list : key_list_of (after_moves s (times 8 (steps 0))) ≡ Keys 126
+  pub list : key_list_of (after_moves s (times 8 (steps 0))) ≡ Ok 126
   pub phase : (thread_at s 0).phase ≡ 15

@@ -1,12 +1,11 @@
 -- Whole files: demand 3 holds after the lines of a file, its sheet ends in `E` with the counts and keys of that state, and no sheet has `X 8`.
-use Rattle.std.specs.Prelude.{List, [], ◌∷◌, ◌++◌, ◌≡◌, refl, ℕ, zero, suc, ◌≤◌, ◌<◌, ltb, length, get_or}
+use Rattle.std.specs.Prelude.{List, [], ◌∷◌, ◌++◌, ◌≡◌, refl, ℕ, zero, suc, ◌≤◌, ◌<◌, ltb, length, get_or, Option, Some, None, Ok, Result}
 use Rattle.std.proofs.Common.{append-nil, sym, ap, ◌∙◌, subst, arith, lt-ltb, le-ltb}
 use Rattle.rules.specs.State.{fresh}
 use Rattle.rules.specs.List.{reached, key_list_of}
 use Rattle.rules.specs.Answers.{list_values}
 use Rattle.rules.specs.declared.state.Settings.{Settings}
 use Rattle.rules.specs.declared.state.State.{State}
-use Rattle.rules.specs.declared.answer.ListReply as ListReply
 use Rattle.states.specs.Tests.{pick}
 use Rattle.order.specs.Invariant.{Invariant, fresh_kept}
 use Rattle.order.specs.Refusal.{list_not_8, list_keys}
@@ -14,7 +13,6 @@ use Rattle.text.specs.Text.{newline, lines, sheet_line, OneLine}
 use Rattle.text.proofs.Writing.{sheet_line-one, lines-first}
 use Rattle.forms.specs.Form.{first_form, line_form}
 use Rattle.forms.proofs.Form.{first_in_range}
-use Rattle.forms.specs.declared.First as First
 use Rattle.sheet.specs.Sheet.{refusal, play_form, end_form, play_lines, play_first, play_all, sheet_of}
 use Rattle.schedules.specs.Played.{after_lines, sheet_lines, lines_sheet}
 use Rattle.schedules.proofs.Played.{schedule_demand3, sheet_ends, form_not_8, line_kept, lines_kept, lines_in_range}
@@ -22,6 +20,7 @@ use Rattle.schedules.specs.Lines.{Shown}
 use Rattle.schedules.proofs.RefusedLines.{refused_shown}
 use Rattle.schedules.proofs.Lines.{wrote_shown, form_shown, end_shown}
 use Rattle.schedules.specs.Files.{PlayedFile, Without8}
+use Rattle.rules.specs.declared.answer.Refusal.{Refusal}
 
 -- one sheet line for each line
 lines-each : (s : State) (ls : List (List ℕ)) → length (sheet_lines s ls) ≡ length ls
@@ -56,14 +55,14 @@ unfolding sheet_of
 sheet_short file h = rw (le-ltb 60000 (length file) h)
 
 -- its first line, and the others
-sheet_first : (file first : List ℕ) (ls : List (List ℕ)) (f : First.First) → length file ≤ 60000 → lines file ≡ first ∷ ls → first_form first ≡ f
+sheet_first : (file first : List ℕ) (ls : List (List ℕ)) (f : Option Settings) → length file ≤ 60000 → lines file ≡ first ∷ ls → first_form first ≡ f
     → sheet_of file ≡ play_first f ls
 unfolding play_all
-sheet_first file first ls f h e z = sheet_short file h ∙ ap play_all e ∙ ap (λ (x : First.First). play_first x ls) z
+sheet_first file first ls f h e z = sheet_short file h ∙ ap play_all e ∙ ap (λ (x : Option Settings). play_first x ls) z
 
 -- so it is with every file of at most 60,000 bytes whose first line is accepted
 pub file_played : (file first : List ℕ) (ls : List (List ℕ)) (c : Settings) → length file ≤ 60000 → lines file ≡ first ∷ ls
-    → first_form first ≡ First.TheVariants.Settings c → PlayedFile file c ls (after_lines (fresh c) ls)
+    → first_form first ≡ Some c → PlayedFile file c ls (after_lines (fresh c) ls)
 unfolding play_first end_form
 file_played file first ls c h e z =
     record {
@@ -71,7 +70,7 @@ file_played file first ls c h e z =
       list = keys;
       sheet =
           whole ∙ ap (λ (l : List ℕ). sheet_line 82 [] ++ l)
-          (sheet_ends (fresh c) ls ∙ ap (λ (r : ListReply.ListReply). lines_sheet (fresh c) ls ++ (end_form s r).sheet) keys);
+          (sheet_ends (fresh c) ls ∙ ap (λ (r : Result ℕ Refusal). lines_sheet (fresh c) ls ++ (end_form s r).sheet) keys);
       plain = λ q. let k = (schedule_demand3 c ls).listed (first_in_range first c z) q in ap list_values (sym keys ∙ k.accepted) ∙ k.rising;
       each = lines-each (fresh c) ls;
       one = lines-one (fresh c) ls;
@@ -84,17 +83,17 @@ file_played file first ls c h e z =
     s : State
     s = after_lines (fresh c) ls
 
-    keys : key_list_of s ≡ ListReply.TheVariants.Keys (reached s).keys
+    keys : key_list_of s ≡ Ok (reached s).keys
     keys = list_keys (lines_kept c ls) (lines_in_range c ls (first_in_range first c z))
 
     whole : sheet_of file ≡ sheet_line 82 [] ++ play_lines (fresh c) ls
-    whole = sheet_first file first ls (First.TheVariants.Settings c) h e z
+    whole = sheet_first file first ls (Some c) h e z
 
 -- one whose first line is not: "the sheet is `X 2` alone"
-pub file_refused : (file first : List ℕ) (ls : List (List ℕ)) → length file ≤ 60000 → lines file ≡ first ∷ ls → first_form first ≡ First.TheVariants.Slip
+pub file_refused : (file first : List ℕ) (ls : List (List ℕ)) → length file ≤ 60000 → lines file ≡ first ∷ ls → first_form first ≡ None
     → sheet_of file ≡ refusal 2
 unfolding play_first
-file_refused file first ls h e z = sheet_first file first ls First.TheVariants.Slip h e z
+file_refused file first ls h e z = sheet_first file first ls None h e z
 
 -- "A file too long gives `X 12` alone, whatever its first line"
 pub file_too_long : (file : List ℕ) → 60000 < length file → sheet_of file ≡ refusal 12
@@ -132,10 +131,10 @@ unfolding sheet_of play_all play_first
 file_without_8 file =
     pick Without8 (ltb 60000 (length file)) (alone_8 (refused_shown 12) (λ e. omega arith)) (all (lines file))
   where
-    first : (f : First.First) (ls : List (List ℕ)) → Without8 (play_first f ls)
-    first (First.TheVariants.Settings c) ls =
+    first : (f : Option Settings) (ls : List (List ℕ)) → Without8 (play_first f ls)
+    first (Some c) ls =
         line_8 (wrote_shown 82 [] refl (λ e. omega arith)) (λ e. omega arith) (play_lines (fresh c) ls) (lines_8 (fresh_kept c) ls)
-    first First.TheVariants.Slip ls = alone_8 (refused_shown 2) (λ e. omega arith)
+    first None ls = alone_8 (refused_shown 2) (λ e. omega arith)
 
     all : (ls : List (List ℕ)) → Without8 (play_all ls)
     all [] = alone_8 (refused_shown 2) (λ e. omega arith)

@@ -1,5 +1,5 @@
 -- A schedule line leaves the state of its call.
-use Rattle.std.specs.Prelude.{◌≡◌, refl}
+use Rattle.std.specs.Prelude.{◌≡◌, refl, Option, Some, None}
 use mathlib.Core.List.{List, ◌++◌}
 use Rattle.std.proofs.Common.{sym, ap}
 use Rattle.rules.specs.Step.{begin_of, run_of}
@@ -11,10 +11,10 @@ use Rattle.sheet.specs.Sheet.{play_form}
 use Rattle.schedules.specs.Played.{call_of}
 
 -- a line leaves the state of its call
-pub line-is_call : (s : State) (f : Line.Line) (cs : List Call) → after_calls s (call_of f ++ cs) ≡ after_calls (play_form s f).state cs
+pub line-is_call : (s : State) (f : Option Line.Line) (cs : List Call) → after_calls s (call_of f ++ cs) ≡ after_calls (play_form s f).state cs
 unfolding play_form after_calls after_call after_move
-line-is_call s (Line.TheVariants.Begin t o k) cs =
+line-is_call s (Some (Line.TheVariants.Begin t o k)) cs =
     ap (λ (x : State). after_calls x cs) (sym (begin_state t (begin_of s t o k).state (begin_of s t o k).reply))
-line-is_call s (Line.TheVariants.Steps t n) cs =
+line-is_call s (Some (Line.TheVariants.Steps t n)) cs =
     ap (λ (x : State). after_calls x cs) (sym (run_state t (run_of s t n).state (run_of s t n).reply))
-line-is_call s Line.TheVariants.Slip cs = refl
+line-is_call s None cs = refl

@@ -1,18 +1,13 @@
 -- A schedule is a run: its begin lines are begins, its step lines counted steps. So demand 3 holds of it.
-use Rattle.std.specs.Prelude.{true, not, ◌≡◌, refl, ℕ, ltb, leb, eqb}
+use Rattle.std.specs.Prelude.{true, not, ◌≡◌, refl, ℕ, ltb, leb, eqb, Option, Some, None, Ok, Err, Result}
 use mathlib.Core.List.{List, [], ◌∷◌, ◌++◌, append_assoc, flatten}
 use Rattle.std.proofs.Common.{sym, ap, ◌∙◌, subst, arith}
 use Rattle.rules.specs.State.{fresh, thread_at}
 use Rattle.rules.specs.Range.{settings_in_range, in_range}
-use Rattle.rules.specs.Step.{begin_of, run_of}
+use Rattle.rules.specs.Step.{begin_of, run_of, Replied}
 use Rattle.rules.specs.List.{key_list_of}
-use Rattle.rules.specs.Answers.{begin_number, run_number}
 use Rattle.rules.specs.declared.state.Settings.{Settings}
 use Rattle.rules.specs.declared.state.State.{State}
-use Rattle.rules.specs.declared.answer.Begin.{Begin}
-use Rattle.rules.specs.declared.answer.BeginReply as BeginReply
-use Rattle.rules.specs.declared.answer.RunReply as RunReply
-use Rattle.rules.specs.declared.answer.ListReply as ListReply
 use Rattle.runs.specs.Calls.{after_calls, moves_of}
 use Rattle.runs.specs.PlainSet.{empty, keys_in}
 use Rattle.runs.specs.Log.{log_of, play_log}
@@ -32,6 +27,10 @@ use Rattle.forms.specs.declared.Line as Line
 use Rattle.sheet.specs.Sheet.{begin_line, run_line, play_form, end_text, end_form, play_lines}
 use Rattle.schedules.specs.Played.{after_lines, call_of, calls_of, sheet_lines, lines_sheet}
 use Rattle.schedules.proofs.LineCalls.{line-is_call}
+use Rattle.rules.specs.declared.answer.Refusal.{Refusal}
+use Rattle.rules.specs.declared.answer.RunReply.{RunReply}
+use Rattle.rules.specs.declared.answer.RunReply as RunReply
+use Rattle.rules.specs.Refusals.{reply_number, number_in}
 
 lines_are_calls : (s : State) (ls : List (List ℕ)) → after_lines s ls ≡ after_calls s (calls_of ls)
 unfolding after_lines calls_of after_calls
@@ -62,41 +61,38 @@ unfolding end_form
 sheet_ends_plain c ls r q =
     let k = (schedule_demand3 c ls).listed r q in
     sheet_ends (fresh c) ls
-    ∙ ap (λ (x : ListReply.ListReply). lines_sheet (fresh c) ls ++ (end_form (after_lines (fresh c) ls) x).sheet) k.accepted
+    ∙ ap (λ (x : Result ℕ Refusal). lines_sheet (fresh c) ls ++ (end_form (after_lines (fresh c) ls) x).sheet) k.accepted
     ∙ ap (λ (x : List ℕ). lines_sheet (fresh c) ls ++ end_text (after_lines (fresh c) ls) x) k.rising
 
 -- a begin is never refused with 8
-begin_not_8 : (s : State) (t o k : ℕ) → begin_number (begin_of s t o k).reply ≡ 8 → ⊥
+begin_not_8 : (s : State) (t o k : ℕ) → reply_number (begin_of s t o k).reply ≡ 8 → ⊥
 unfolding begin_of
 begin_not_8 s t o k =
-    let Q : Begin → Type 0 = λ b. begin_number b.reply ≡ 8 → ⊥ in
+    let Q : Replied (Unit {0}) → Type 0 = λ b. reply_number b.reply ≡ 8 → ⊥ in
     pick Q (not (in_range s)) (λ e. omega arith)
     (pick Q (ltb 2 o) (λ e. omega arith)
     (pick Q (ltb 7 t) (λ e. omega arith)
     (pick Q (ltb 63 k) (λ e. omega arith)
     (pick Q (not (eqb (thread_at s t).phase 0)) (λ e. omega arith) (pick Q (leb 1000000 s.begun) (λ e. omega arith) (λ e. omega arith))))))
 
-begin_number_lem : (t : ℕ) (s : State) (r : BeginReply.BeginReply) → (begin_line t s r).number ≡ begin_number r
+begin_same : (t : ℕ) (s : State) (r : Result (Unit {0}) Refusal) → number_in (begin_line t s r).refused ≡ reply_number r
 unfolding begin_line
-begin_number_lem t s BeginReply.TheVariants.Begun = refl
-begin_number_lem t s (BeginReply.TheVariants.Refused n) = refl
+begin_same t s (Ok u) = refl
+begin_same t s (Err r) = refl
 
-run_number_lem : (t : ℕ) (s : State) (r : RunReply.RunReply) → (run_line t s r).number ≡ run_number r
+run_same : (t : ℕ) (s : State) (r : Result RunReply Refusal) → number_in (run_line t s r).refused ≡ reply_number r
 unfolding run_line
-run_number_lem t s (RunReply.TheVariants.Stops n p) = refl
-run_number_lem t s (RunReply.TheVariants.Ends n a c) = refl
-run_number_lem t s (RunReply.TheVariants.Refused n) = refl
+run_same t s (Ok p) = refl
+run_same t s (Err r) = refl
 
-pub form_not_8 : {s : State} → Invariant s → (f : Line.Line) → (play_form s f).number ≡ 8 → ⊥
+pub form_not_8 : {s : State} → Invariant s → (f : Option Line.Line) → number_in (play_form s f).refused ≡ 8 → ⊥
 unfolding play_form
-form_not_8 {s} i (Line.TheVariants.Begin t o k) e =
-    begin_not_8 s t o k (sym (begin_number_lem t (begin_of s t o k).state (begin_of s t o k).reply) ∙ e)
-form_not_8 {s} i (Line.TheVariants.Steps t n) e =
-    run_not_8 i t n (sym (run_number_lem t (run_of s t n).state (run_of s t n).reply) ∙ e)
-form_not_8 i Line.TheVariants.Slip e = omega arith
+form_not_8 {s} i (Some (Line.TheVariants.Begin t o k)) e = begin_not_8 s t o k (sym (begin_same t (begin_of s t o k).state (begin_of s t o k).reply) ∙ e)
+form_not_8 {s} i (Some (Line.TheVariants.Steps t n)) e = run_not_8 i t n (sym (run_same t (run_of s t n).state (run_of s t n).reply) ∙ e)
+form_not_8 i None e = omega arith
 
 -- a line keeps the invariant
-pub line_kept : {s : State} → Invariant s → (f : Line.Line) → Invariant (play_form s f).state
+pub line_kept : {s : State} → Invariant s → (f : Option Line.Line) → Invariant (play_form s f).state
 unfolding after_calls
 line_kept {s} i f = subst Invariant (line-is_call s f []) (calls_kept i (call_of f ++ []))
 
@@ -111,10 +107,10 @@ lines_in_range c ls r =
     (moves_in_range (fresh c) (moves_of (fresh c) (calls_of ls)) (fresh_in_range c r))
 
 -- no line of a schedule is refused with 8
-pub line-not_8 : (c : Settings) (ls : List (List ℕ)) (l : List ℕ) → (play_form (after_lines (fresh c) ls) (line_form l)).number ≡ 8 → ⊥
+pub line-not_8 : (c : Settings) (ls : List (List ℕ)) (l : List ℕ) → number_in (play_form (after_lines (fresh c) ls) (line_form l)).refused ≡ 8 → ⊥
 line-not_8 c ls l = form_not_8 (lines_kept c ls) (line_form l)
 
 -- the answer and the commit number of a `D` line are those with which the last step taken ends the operation
 pub end_of_line : (c : Settings) (ls : List (List ℕ)) (t n k a m : ℕ)
-    → (run_of (after_lines (fresh c) ls) t n).reply ≡ RunReply.TheVariants.Ends k a m → Last (after_lines (fresh c) ls) t k a m
+    → (run_of (after_lines (fresh c) ls) t n).reply ≡ Ok (RunReply.TheVariants.Ends k a m) → Last (after_lines (fresh c) ls) t k a m
 end_of_line c ls = run_replies (lines_kept c ls)

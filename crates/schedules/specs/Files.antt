@@ -1,11 +1,10 @@
 -- What the sheet of a whole file says.
-use Rattle.std.specs.Prelude.{List, [], ◌∷◌, ◌++◌, ◌≡◌, ℕ, ◌+◌, ◌<◌, length, get_or}
+use Rattle.std.specs.Prelude.{List, [], ◌∷◌, ◌++◌, ◌≡◌, ℕ, ◌+◌, ◌<◌, length, get_or, Ok}
 use Rattle.keys.specs.Keys.{list_of}
 use Rattle.rules.specs.State.{fresh}
 use Rattle.rules.specs.List.{reached, key_list_of}
 use Rattle.rules.specs.declared.state.Settings.{Settings}
 use Rattle.rules.specs.declared.state.State.{State}
-use Rattle.rules.specs.declared.answer.ListReply as ListReply
 use Rattle.runs.specs.Calls.{moves_of}
 use Rattle.runs.specs.PlainSet.{empty, keys_in}
 use Rattle.runs.specs.Log.{log_of, play_log}
@@ -21,7 +20,7 @@ pub record PlayedFile (file : List ℕ) (c : Settings) (ls : List (List ℕ)) (s
   -- demand 3 holds of the calls of these lines
   pub demand : Demand3 c (calls_of ls) s (events_of (fresh c) (moves_of (fresh c) (calls_of ls))) (log_of (fresh c) (moves_of (fresh c) (calls_of ls)))
   -- the key list of that state is not refused
-  pub list : key_list_of s ≡ ListReply.TheVariants.Keys (reached s).keys
+  pub list : key_list_of s ≡ Ok (reached s).keys
   -- the sheet is `R`, the sheet lines of these lines, and `E` with the counts and the keys of that state
   pub sheet : sheet_of file ≡ sheet_line 82 [] ++ (lines_sheet (fresh c) ls ++ end_text s (list_of (reached s).keys))
   -- these keys are those of the plain set where no thread is in phases 20 to 23

@@ -1,5 +1,5 @@
 -- What the lines of a schedule come to: the state after them, their calls, their sheet lines.
-use Rattle.std.specs.Prelude.{ℕ}
+use Rattle.std.specs.Prelude.{ℕ, Option, Some, None}
 use mathlib.Core.List.{List, [], ◌∷◌, ◌++◌, flatten}
 use Rattle.rules.specs.declared.state.State.{State}
 use Rattle.runs.specs.Calls.{begins, Call, move, counted}
@@ -13,10 +13,10 @@ after_lines s [] = s
 after_lines s (l ∷ ls) = after_lines (play_form s (line_form l)).state ls
 
 -- the call of a line; a slip is none
-abbrev pub call_of : Line.Line → List Call
-call_of (Line.TheVariants.Begin t o k) = move (begins t o k) ∷ []
-call_of (Line.TheVariants.Steps t n) = counted t n ∷ []
-call_of Line.TheVariants.Slip = []
+abbrev pub call_of : Option Line.Line → List Call
+call_of (Some (Line.TheVariants.Begin t o k)) = move (begins t o k) ∷ []
+call_of (Some (Line.TheVariants.Steps t n)) = counted t n ∷ []
+call_of None = []
 
 -- the calls of the lines of a schedule
 unfoldable pub calls_of : List (List ℕ) → List Call

@@ -1,3 +1,4 @@
+pub mod Replies
 pub mod Inner
 pub mod Lengths
 pub mod States

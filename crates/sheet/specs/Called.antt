@@ -1,15 +1,21 @@
--- What the contract of a line call says: its answer and every byte of the room.
-use Rattle.std.specs.Prelude.{List, ◌≡◌, ℕ, length}
+-- What the contract of a line call says: its answer, the state after and every byte of the room.
+use Rattle.std.specs.Prelude.{List, ◌≡◌, ℕ, length, Option, Some}
 use Rattle.std.proofs.lemmas.List.Edits.{sets}
 use Rattle.rules.specs.declared.state.State.{State}
+use Rattle.rules.specs.declared.answer.Refusal.{Refusal}
 use Rattle.sheet.specs.Sheet.{Played}
 use Rattle.sheet.specs.declared.calls.Answer.{Answer}
 
--- an answer with this number, line length and state
-abbrev pub answer : ℕ → ℕ → State → Answer
-answer number size s = record { number = number; length = size; state = s }
+-- an answer with this refusal, if it is one, and line length
+abbrev pub answer : Option Refusal → ℕ → Answer
+answer r size = record { refused = r; length = size }
 
--- the bytes l of the room became l', and r was answered: p's number, state and sheet line, and no other byte changed
-pub record Called (p : Played) (l : List ℕ) (r : Answer) (l' : List ℕ) : Type 0 where
-  pub reply : r ≡ answer p.number (length p.sheet) p.state
+-- a refusal that writes nothing
+abbrev pub silently : Refusal → Answer
+silently r = answer (Some r) 0
+
+-- r was answered, the state is s', and the bytes l of the room became l': p's refusal, state and sheet line, and no other byte changed
+pub record Called (p : Played) (l : List ℕ) (r : Answer) (s' : State) (l' : List ℕ) : Type 0 where
+  pub reply : r ≡ answer p.refused (length p.sheet)
+  pub state : s' ≡ p.state
   pub bytes : l' ≡ sets l 0 p.sheet

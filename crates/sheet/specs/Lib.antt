@@ -1,3 +1,4 @@
 pub mod Sheet
 pub mod Called
+pub mod Shown
 pub mod Examples

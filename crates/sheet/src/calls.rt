@@ -1,262 +1,178 @@
 // The line calls: a schedule line in, its sheet line out at the front of lent room. A line is passed without its newline.
-ghost use Rattle.std.specs.Prelude.{◌≡◌, true, ◌≤◌, length};
-ghost use Rattle.rules.specs.State.{fresh};
-ghost use Rattle.rules.specs.Range.{settings_in_range};
-ghost use Rattle.rules.specs.Step.{zero_settings, begin_in, run_in};
-ghost use Rattle.rules.specs.Answers.{begin_number, run_number};
-ghost use Rattle.text.specs.Text.{sheet_line, Wrote};
-ghost use Rattle.sheet.specs.Sheet.{refusal, wrote, refused, begin_sheet, begin_line, run_sheet, run_line, end_form, first_of, line_in, line_of, end_of};
-ghost use Rattle.sheet.specs.Called.{Called, answer};
+ghost use Rattle.std.specs.Prelude.{◌≡◌, ◌≤◌, length};
+ghost use Rattle.rules.specs.Step.{begin_in, run_in};
+ghost use Rattle.rules.specs.List.{key_list_of};
+ghost use Rattle.forms.specs.Form.{line_form};
+ghost use Rattle.sheet.specs.Sheet.{refused_of, begin_line, run_line, play_in, end_form, first_of, line_in, line_of, end_of};
+ghost use Rattle.sheet.specs.Shown.{plays};
+ghost use Rattle.sheet.specs.Called.{Called};
 
-use forms::{First, Line};
-use rules::answer::{BeginReply, ListReply, RunReply};
-use rules::state::{Settings, State};
+use crate::shown;
+use crate::shown::SheetLine;
+use forms::Line;
+use rules::answer::{Refusal, RunReply};
+use rules::state::State;
 
 // The least room that is written to.
 const LEAST_ROOM: usize = 256;
 
-// What a line call answers: the refusal number or 0, how many bytes it wrote, and the state after.
-#[derive(Clone, Copy)]
+// What a line call answers: the refusal, if it is one, and how many bytes it wrote.
+#[derive(Clone, Copy, PartialEq, Eq, Debug)]
 pub struct Answer {
-    pub number: u8,
+    pub refused: Option<Refusal>,
     pub length: usize,
-    pub state: State,
 }
 
 // A refusal that writes nothing.
-fn silent(s: State, number: u8) -> Answer
-    ensures { result ≡ answer number 0 s }
+fn silent(refusal: Refusal) -> Answer
+    ensures { result ≡ Rattle.sheet.specs.Called.silently refusal }
 {
     Answer {
-        number,
+        refused: Some(refusal),
         length: 0,
-        state: s,
     }
 }
 
-// A sheet line of at most 4 numbers.
-fn wrote(s: State, letter: u8, numbers: &[u32], room: &mut [u8]) -> Answer
-    requires { (length numbers.now ≤ 4) × (256 ≤ length room.old) }
-    ensures { Called (wrote s (sheet_line letter numbers.now)) room.old result room.new }
-{
-    let length = writing::put_line(&mut *room, letter, numbers);
-    Answer {
-        number: 0,
-        length,
-        state: s,
-    }
-}
-
-// `X` and the refusal number.
-fn put_refusal(number: u8, room: &mut [u8]) -> usize
+// A reply and its line.
+fn reply_with(reply: Result<SheetLine, Refusal>, room: &mut [u8]) -> Answer
     requires { 256 ≤ length room.old }
-    ensures { Wrote room.old 0 (refusal number) result room.new }
-{
-    let numbers = [number as u32];
-    writing::put_line(&mut *room, 88, &numbers)
-}
-
-// A refusal with its line.
-fn refused(s: State, number: u8, room: &mut [u8]) -> Answer
-    requires { 256 ≤ length room.old }
-    ensures { Called (refused s number) room.old result room.new }
-{
-    let length = put_refusal(number, &mut *room);
-    Answer {
-        number,
-        length,
-        state: s,
-    }
-}
-
-fn begin_number(reply: BeginReply) -> u8
-    ensures { result ≡ begin_number reply }
+    ensures { (s : State) → Called (plays reply s) room.old result s room.new }
 {
     match reply {
-        BeginReply::Begun => 0,
-        BeginReply::Refused { number } => number,
+        Ok(line) => Answer {
+            refused: None,
+            length: shown::put(line, room),
+        },
+        Err(refusal) => Answer {
+            refused: Some(refusal),
+            length: writing::put_line(room, b'X', &[shown::number(refusal)]),
+        },
     }
 }
 
-// `B thread`, or the line of a refusal.
-fn put_begin(t: u32, reply: BeginReply, room: &mut [u8]) -> usize
-    requires { 256 ≤ length room.old }
-    ensures { Wrote room.old 0 (begin_sheet t reply) result room.new }
+// A refusal's line alone.
+pub fn refusal_line(refusal: Refusal, room: &mut [u8]) -> Answer
+    ensures { (s : State) → Called (refused_of (length room.old) s refusal) room.old result s room.new }
 {
-    match reply {
-        BeginReply::Begun => {
-            let numbers = [t];
-            writing::put_line(&mut *room, 66, &numbers)
-        }
-        BeginReply::Refused { number } => put_refusal(number, &mut *room),
+    if room.len() < LEAST_ROOM {
+        return silent(Refusal::LittleRoom);
     }
+    reply_with(Err(refusal), room)
 }
 
-// A begin and its line. The state is taken last: taken before the line is written it would be copied once more.
-fn begin_line(s: State, t: u32, o: u32, k: u32, room: &mut [u8]) -> Answer
-    requires { 256 ≤ length room.old }
-    ensures { Called (begin_line t (begin_in s t o k).state (begin_in s t o k).reply) room.old result room.new }
+// A begin, and `B thread`.
+fn begin_reply(s: &mut State, t: u32, o: u32, k: u32) -> Result<SheetLine, Refusal>
+    ensures { plays result s.new ≡ begin_line t (begin_in s.old t o k).state (begin_in s.old t o k).reply }
 {
-    let begin = beginning::begin_in(s, t, o, k);
-    let reply = begin.reply;
-    let length = put_begin(t, reply, &mut *room);
-    let number = begin_number(reply);
-    let u = begin.state;
-    Answer {
-        number,
-        length,
-        state: u,
-    }
+    beginning::begin_in(s, t, o, k)?;
+    Ok(SheetLine::Begun { thread: t })
 }
 
-fn run_number(reply: RunReply) -> u8
-    ensures { result ≡ run_number reply }
+// Counted steps, and `S thread taken phase` or, on ending, `D thread taken answer commit`.
+fn steps_reply(s: &mut State, t: u32, n: u32) -> Result<SheetLine, Refusal>
+    ensures { plays result s.new ≡ run_line t (run_in s.old t n).state (run_in s.old t n).reply }
 {
-    match reply {
-        RunReply::Stops { taken: _, phase: _ } => 0,
-        RunReply::Ends {
-            taken: _,
-            answer: _,
-            commit: _,
-        } => 0,
-        RunReply::Refused { number } => number,
-    }
-}
-
-// `S thread taken phase`, `D thread taken answer commit`, or the line of a refusal.
-fn put_run(t: u32, reply: RunReply, room: &mut [u8]) -> usize
-    requires { 256 ≤ length room.old }
-    ensures { Wrote room.old 0 (run_sheet t reply) result room.new }
-{
-    match reply {
-        RunReply::Stops { taken, phase } => {
-            let numbers = [t, taken, phase as u32];
-            writing::put_line(&mut *room, 83, &numbers)
-        }
+    match machine::run::run_in(s, t, n)? {
+        RunReply::Stops { taken, phase } => Ok(SheetLine::Stops {
+            thread: t,
+            taken,
+            phase,
+        }),
         RunReply::Ends {
             taken,
             answer,
             commit,
-        } => {
-            let numbers = [t, taken, answer as u32, commit];
-            writing::put_line(&mut *room, 68, &numbers)
-        }
-        RunReply::Refused { number } => put_refusal(number, &mut *room),
+        } => Ok(SheetLine::Ends {
+            thread: t,
+            taken,
+            answer,
+            commit,
+        }),
     }
 }
 
-// Counted steps and their line. The state is taken last here too.
-fn steps_line(s: State, t: u32, n: u32, room: &mut [u8]) -> Answer
-    requires { 256 ≤ length room.old }
-    ensures { Called (run_line t (run_in s t n).state (run_in s t n).reply) room.old result room.new }
+// What a line other than the first comes to.
+#[tactic(auto, unfolding(crate::specs::Sheet::play_in))]
+fn line_reply(s: &mut State, line: &[u8]) -> Result<SheetLine, Refusal>
+    ensures { plays result s.new ≡ play_in s.old (line_form line.now) }
 {
-    let run = machine::run::run_in(s, t, n);
-    let reply = run.reply;
-    let length = put_run(t, reply, &mut *room);
-    let number = run_number(reply);
-    let u = run.state;
-    Answer {
-        number,
-        length,
-        state: u,
+    match forms::line_form(line) {
+        Some(
+            Line::Begin {
+                thread,
+                operation,
+                key,
+            },
+        ) => begin_reply(s, thread, operation, key),
+        Some(Line::Steps { thread, count }) => steps_reply(s, thread, count),
+        None => Err(Refusal::NotOfTheForms),
     }
 }
 
-// `E committed made keys`, or a refusal.
-fn keys_line(s: State, reply: ListReply, room: &mut [u8]) -> Answer
-    requires { 256 ≤ length room.old }
-    ensures { Called (end_form s reply) room.old result room.new }
+// The key list, and `E committed made keys`.
+fn end_reply(s: &State) -> Result<SheetLine, Refusal>
+    ensures { plays result s.now ≡ end_form s.now (key_list_of s.now) }
 {
-    match reply {
-        ListReply::Keys { keys } => {
-            let length = writing::put_keys_line(&mut *room, 69, s.committed, s.made as u32, keys);
-            Answer {
-                number: 0,
-                length,
-                state: s,
-            }
-        }
-        ListReply::Refused { number } => refused(s, number, &mut *room),
-    }
-}
-
-// The fresh state of settings that are in range.
-fn fresh_state(c: Settings) -> State
-    requires { settings_in_range c ≡ true }
-    ensures { result ≡ fresh c }
-{
-    let made = beginning::fresh(c.succ, c.fail, c.low, c.max);
-    made.state
-}
-
-// The state of a refused settings line.
-fn no_state() -> State
-    ensures { result ≡ fresh zero_settings }
-{
-    fresh_state(Settings {
-        succ: 0,
-        fail: 0,
-        low: 0,
-        max: 0,
+    let keys = listing::key_list(s)?;
+    Ok(SheetLine::Keys {
+        committed: s.committed,
+        made: s.made,
+        keys,
     })
 }
 
-// The first line: a fresh state, and `R`.
-pub fn settings_line(line: &[u8], room: &mut [u8]) -> Answer
-    ensures { Called (first_of (length room.old) line.now) room.old result room.new }
+// The first line: a fresh state, and `R`. A refused one has the zero state.
+pub fn settings_line(line: &[u8], room: &mut [u8]) -> (State, Answer)
+    ensures { Called (first_of (length room.old) line.now) room.old result.1 result.0 room.new }
 {
     if room.len() < LEAST_ROOM {
-        return silent(no_state(), 9);
+        return (beginning::zero_state(), silent(Refusal::LittleRoom));
     }
-    let form = forms::first_form(line);
-    match form {
-        First::Settings { settings } => wrote(fresh_state(settings), 82, &[], &mut *room),
-        First::Slip => refused(no_state(), 2, &mut *room),
+    match forms::first_form(line) {
+        Some(settings) => (
+            beginning::fresh_in(settings),
+            reply_with(Ok(SheetLine::Settings), room),
+        ),
+        None => (
+            beginning::zero_state(),
+            reply_with(Err(Refusal::BadSettings), room),
+        ),
     }
 }
 
 // Any other line, without the range test.
-pub fn line_in(s: State, line: &[u8], room: &mut [u8]) -> Answer
-    ensures { Called (line_in (length room.old) s line.now) room.old result room.new }
+pub fn line_in(s: &mut State, line: &[u8], room: &mut [u8]) -> Answer
+    ensures { Called (line_in (length room.old) s.old line.now) room.old result s.new room.new }
 {
     if room.len() < LEAST_ROOM {
-        return silent(s, 9);
+        return silent(Refusal::LittleRoom);
     }
-    let form = forms::line_form(line);
-    match form {
-        Line::Begin {
-            thread,
-            operation,
-            key,
-        } => begin_line(s, thread, operation, key, &mut *room),
-        Line::Steps { thread, count } => steps_line(s, thread, count, &mut *room),
-        Line::Slip => refused(s, 1, &mut *room),
-    }
+    let reply = line_reply(s, line);
+    reply_with(reply, room)
 }
 
 // Any other line.
-pub fn line(s: State, line: &[u8], room: &mut [u8]) -> Answer
-    ensures { Called (line_of (length room.old) s line.now) room.old result room.new }
+pub fn line(s: &mut State, line: &[u8], room: &mut [u8]) -> Answer
+    ensures { Called (line_of (length room.old) s.old line.now) room.old result s.new room.new }
 {
     if room.len() < LEAST_ROOM {
-        return silent(s, 9);
+        return silent(Refusal::LittleRoom);
     }
     if !range::in_range(s) {
-        return silent(s, 7);
+        return silent(Refusal::OutOfRange);
     }
-    line_in(s, line, &mut *room)
+    line_in(s, line, room)
 }
 
 // The end of the sheet.
-pub fn end_line(s: State, room: &mut [u8]) -> Answer
-    ensures { Called (end_of (length room.old) s) room.old result room.new }
+pub fn end_line(s: &State, room: &mut [u8]) -> Answer
+    ensures { Called (end_of (length room.old) s.now) room.old result s.now room.new }
 {
     if room.len() < LEAST_ROOM {
-        return silent(s, 9);
+        return silent(Refusal::LittleRoom);
     }
     if !range::in_range(s) {
-        return silent(s, 7);
+        return silent(Refusal::OutOfRange);
     }
-    let reply = listing::key_list(s);
-    keys_line(s, reply, &mut *room)
+    reply_with(end_reply(s), room)
 }

@@ -1,11 +1,12 @@
 -- What rows have in common, in range.
-use Rattle.std.specs.Prelude.{true, ◌≡◌, ℕ, ◌<◌, T, eqb, leb, ltb, get_or}
+use Rattle.std.specs.Prelude.{true, ◌≡◌, ℕ, ◌<◌, T, eqb, leb, ltb, get_or, Option}
 use Rattle.std.proofs.Common.{inl, inr, arith, ltb-true}
 use Rattle.states.specs.Tests.{pick}
 use Rattle.states.specs.Facts.{PlaceOk, RegisterOk, registers_of, ThreadOk}
+use Rattle.states.specs.Lists.{Stored}
 use Rattle.states.specs.Plans.{ViewOk, PlanOk}
-use Rattle.states.specs.Pieces.{phase_ok, base_ok, walk_ok, zero_place_ok, takes_ok}
-use Rattle.rules.specs.State.{none, zero_place}
+use Rattle.states.specs.Pieces.{phase_ok, base_ok, walk_ok, takes_ok}
+use Rattle.rules.specs.State.{none}
 use Rattle.rules.specs.Places.{is_route}
 use Rattle.rules.specs.Rows.{stores3, stores1, only, goes, hangs, searches, seeks}
 use Rattle.rules.specs.declared.state.Place.{Place}
@@ -23,13 +24,9 @@ module _ (v : View) (f : ViewOk v) where
   pub reg : (i : ℕ) → RegisterOk v.made (get_or (registers_of v.thread) i none)
   reg = f.thread.registers
 
-  -- a store that stores nothing
-  pub nothing : PlaceOk v.made zero_place
-  nothing = zero_place_ok v.made
-
   -- a plan that stores three places
-  pub stores3_ok : {t : Thread} {a b c : Store} → ThreadOk v.made t → PlaceOk v.made a.place → PlaceOk v.made b.place
-      → PlaceOk v.made c.place → PlanOk v (stores3 v t a b c)
+  pub stores3_ok : {t : Thread} {a b c : Option Store} → ThreadOk v.made t → Stored (PlaceOk v.made) a → Stored (PlaceOk v.made) b
+      → Stored (PlaceOk v.made) c → PlanOk v (stores3 v t a b c)
   stores3_ok h a b c =
       record {
         thread = h;
@@ -43,12 +40,12 @@ module _ (v : View) (f : ViewOk v) where
       }
 
   -- one place
-  pub stores1_ok : {t : Thread} {a : Store} → ThreadOk v.made t → PlaceOk v.made a.place → PlanOk v (stores1 v t a)
-  stores1_ok h a = stores3_ok h a nothing nothing
+  pub stores1_ok : {t : Thread} {a : Option Store} → ThreadOk v.made t → Stored (PlaceOk v.made) a → PlanOk v (stores1 v t a)
+  stores1_ok h a = stores3_ok h a tt tt
 
   -- none
   pub only_ok : {t : Thread} → ThreadOk v.made t → PlanOk v (only v t)
-  only_ok h = stores1_ok h nothing
+  only_ok h = stores1_ok h tt
 
   -- none, and the phase alone is set
   pub goes_ok : (p : ℕ) → T (leb p 25) → PlanOk v (goes v p)
@@ -65,9 +62,9 @@ module _ (v : View) (f : ViewOk v) where
         made = omega arith;
         most = f.most;
         committed = f.committed;
-        first = pick (λ (a : Store). PlaceOk v.made a.place) (eqb y none) nothing (takes_ok x new l q);
-        second = nothing;
-        third = nothing;
+        first = pick (Stored (PlaceOk v.made)) (eqb y none) tt (takes_ok x new l q);
+        second = tt;
+        third = tt;
       }
 
   -- a search goes to a made node or none

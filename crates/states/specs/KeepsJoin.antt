@@ -7,14 +7,14 @@ use Rattle.std.proofs.Math.Dec.{T, ltb}
 use Rattle.states.specs.Tests.{pick, both}
 use Rattle.states.specs.Facts.{PlaceOk, ThreadOk}
 use Rattle.states.specs.Plans.{ViewOk, PlanOk, thread_more}
-use Rattle.states.specs.Pieces.{phase_ok, walk_ok, neighbour_ok, grandparent_ok, made_ok, side_ok, zero_place_ok, base_body_ok, new_ok, tried_ok, release_ok, zero_ok, invalid_ok, child_ok}
-use Rattle.states.specs.Common.{named, reg, nothing, stores3_ok, stores1_ok, only_ok, goes_ok, hangs_ok, seeks_ok}
+use Rattle.states.specs.Pieces.{phase_ok, walk_ok, neighbour_ok, grandparent_ok, made_ok, side_ok, base_body_ok, new_ok, tried_ok, release_ok, zero_ok, invalid_ok, child_ok}
+use Rattle.states.specs.Lists.{Stored}
+use Rattle.states.specs.Common.{named, reg, stores3_ok, stores1_ok, only_ok, goes_ok, hangs_ok, seeks_ok}
 use Rattle.rules.specs.State.{none}
 use Rattle.rules.specs.Places.{is_route, is_base, is_free, child_on}
 use Rattle.rules.specs.Rows.{far_side, far_child, near_child, no_join, join, towards_prev, row9, row10, row11, row12, row13, row14, row15, row16, row17, row18, row19, row20, row21, row22, row23, row24}
 use Rattle.rules.specs.Needs.{base, maybe_route, route_p, base_n, none_or_g}
 use Rattle.rules.specs.declared.row.View.{View}
-use Rattle.rules.specs.declared.row.Store.{Store}
 
 module _ (v : View) (f : ViewOk v) where
   pub row9_ok : PlanOk v (row9 v)
@@ -36,7 +36,6 @@ module _ (v : View) (f : ViewOk v) where
   join_ok : v.made ≤ 127 → PlanOk v (join v)
   unfolding join
   join_ok l =
-      let z = zero_place_ok (v.made + 1) in
       record {
         thread = phase_ok 13 tt (made_ok v.made (inr (omega arith)) (thread_more (omega arith) f.thread));
         root = omega (arith, f.root);
@@ -44,8 +43,8 @@ module _ (v : View) (f : ViewOk v) where
         most = omega arith;
         committed = f.committed;
         first = new_ok (base_body_ok (v.made + 1) _);
-        second = z;
-        third = z;
+        second = tt;
+        third = tt;
       }
 
   -- none: N released, then B
@@ -54,7 +53,7 @@ module _ (v : View) (f : ViewOk v) where
   no_join_ok =
       let n = release_ok f.neighbour in
       let b = pick (PlaceOk v.made) (eqb v.thread.base v.thread.neighbour) n f.base in
-      stores3_ok v f (phase_ok 25 tt f.thread) n (zero_ok b) (nothing v f)
+      stores3_ok v f (phase_ok 25 tt f.thread) n (zero_ok b) tt
 
   pub row12_ok : PlanOk v (row12 v)
   unfolding row12
@@ -109,9 +108,8 @@ module _ (v : View) (f : ViewOk v) where
   pub row20_ok : PlanOk v (row20 v)
   unfolding row20
   row20_ok =
-      let Q : Store → Type 0 = λ a. PlaceOk v.made a.place in
       stores3_ok v f (phase_ok 21 tt f.thread) (release_ok f.prev)
-      (pick Q (eqb v.thread.grandparent none) (nothing v f) (release_ok f.grandparent)) (nothing v f)
+      (pick (Stored (PlaceOk v.made)) (eqb v.thread.grandparent none) tt (release_ok f.grandparent)) tt
 
   pub row21_ok : PlanOk v (row21 v)
   unfolding row21

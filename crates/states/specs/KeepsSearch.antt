@@ -8,7 +8,7 @@ use Rattle.states.specs.Tests.{pick-by, pick, both}
 use Rattle.states.specs.Facts.{PlaceOk}
 use Rattle.states.specs.Plans.{ViewOk, PlanOk, thread_more}
 use Rattle.states.specs.Pieces.{phase_ok, prev_ok, made_ok, answer_ok, fresh_thread_ok, answer_small, base_body_ok, new_ok, taken3_ok, taken4_ok, release_ok, zero_ok, invalid_ok, keys_ok, child_ok}
-use Rattle.states.specs.Common.{named, reg, nothing, stores1_ok, only_ok, goes_ok, hangs_ok, searches_ok}
+use Rattle.states.specs.Common.{named, reg, stores1_ok, only_ok, goes_ok, hangs_ok, searches_ok}
 use Rattle.rules.specs.State.{none}
 use Rattle.rules.specs.Registers.{at_phase}
 use Rattle.rules.specs.Places.{is_route, is_base, is_free, keys_of, release, with_keys, answer_of}
@@ -56,8 +56,8 @@ module _ (v : View) (f : ViewOk v) where
         most = f.most;
         committed = omega arith;
         first = h;
-        second = nothing v f;
-        third = nothing v f;
+        second = tt;
+        third = tt;
       }
 
   -- and the decision after it

@@ -1,8 +1,7 @@
 -- What each element of a list has; past its end stands a default that has it too.
-use Rattle.std.specs.Prelude.{List, [], ◌∷◌, ◌≡◌, refl, ℕ, zero, suc, ltb, length, get_or, set, replicate}
+use Rattle.std.specs.Prelude.{List, [], ◌∷◌, ◌≡◌, refl, ℕ, zero, suc, length, get_or, set, replicate, Option, Some, None, IfSome}
 use Rattle.std.proofs.Common.{length-set}
-use Rattle.states.specs.Tests.{pick}
-use Rattle.rules.specs.State.{none, zero_place}
+use Rattle.rules.specs.State.{zero_place}
 use Rattle.rules.specs.Step.{put}
 use Rattle.rules.specs.declared.state.Place.{Place}
 use Rattle.rules.specs.declared.row.Store.{Store}
@@ -22,14 +21,19 @@ each_replicate P p q zero i = q
 each_replicate P p q (suc n) zero = p
 each_replicate P p q (suc n) (suc i) = each_replicate P p q n i
 
+-- the place that is stored, if one is
+abbrev pub Stored : (Place → Type 0) → Option Store → Type 0
+Stored P a = IfSome a (λ w. P w.place)
+
 -- the places after a store
-pub each-put : (P : Place → Type 0) (w : Store) (ps : List Place) → P w.place → ((n : ℕ) → P (get_or ps n zero_place))
-    → (n : ℕ) → P (get_or (put w ps) n zero_place)
+pub each-put : (P : Place → Type 0) (a : Option Store) (ps : List Place) → Stored P a → ((n : ℕ) → P (get_or ps n zero_place))
+    → (n : ℕ) → P (get_or (put a ps) n zero_place)
 unfolding put
-each-put P w ps p f n =
-    pick (λ (l : List Place). P (get_or l n zero_place)) (ltb w.at none) (each_set P ps w.at w.place zero_place p f n) (f n)
+each-put P None ps p f n = f n
+each-put P (Some w) ps p f n = each_set P ps w.at w.place zero_place p f n
 
 -- a store leaves how many places there are
-pub length-put : (w : Store) (ps : List Place) → length (put w ps) ≡ length ps
+pub length-put : (a : Option Store) (ps : List Place) → length (put a ps) ≡ length ps
 unfolding put
-length-put w ps = pick (λ (l : List Place). length l ≡ length ps) (ltb w.at none) (length-set ps w.at w.place) refl
+length-put None ps = refl
+length-put (Some w) ps = length-set ps w.at w.place

@@ -1,7 +1,7 @@
 -- A plan that is in range, and the state after it.
 use Rattle.std.proofs.Common.{inl, inr, le_trans}
 use Rattle.std.specs.Prelude.{ℕ, ◌≤◌, ◌<◌}
-use Rattle.states.specs.Lists.{each_set, each-put}
+use Rattle.states.specs.Lists.{Stored, each_set, each-put}
 use Rattle.states.specs.Facts.{PlaceOk, RegisterOk, ThreadOk, InRange}
 use Rattle.rules.specs.State.{zero_thread, place_at, thread_at}
 use Rattle.rules.specs.Step.{view_before, view_of, apply}
@@ -25,16 +25,16 @@ pub record ViewOk (v : View) : Type 0 where
   pub neighbour : PlaceOk v.made v.neighbour
   pub grandparent : PlaceOk v.made v.grandparent
 
--- a plan after which all is in range; a store that stores nothing has a place in range too
+-- a plan after which all is in range
 pub record PlanOk (v : View) (p : Plan) : Type 0 where
   pub thread : ThreadOk p.made p.thread
   pub root : p.root < p.made
   pub made : v.made ≤ p.made
   pub most : p.made ≤ 128
   pub committed : p.committed ≤ v.begun
-  pub first : PlaceOk p.made p.first.place
-  pub second : PlaceOk p.made p.second.place
-  pub third : PlaceOk p.made p.third.place
+  pub first : Stored (PlaceOk p.made) p.first
+  pub second : Stored (PlaceOk p.made) p.second
+  pub third : Stored (PlaceOk p.made) p.third
 
 -- ---- what is in range for a count of nodes made is so for a larger one
 

@@ -2,7 +2,8 @@
 use Rattle.std.specs.Prelude.{Bool, true, false, cond, ◌&&◌, ◌||◌, List, [], ◌∷◌, map, ◌⊎◌, ◌≡◌, refl, ℕ, zero, suc, ◌<◌, eqb, get_or}
 use Rattle.std.proofs.Common.{true≢false, inl, inr, sym, ap, ◌∙◌, not-suc-le-zero, arith, eqb-true}
 use Rattle.std.proofs.lemmas.Bool.{eqb-false}
-use Rattle.rules.specs.Refusals.{Refusal, first}
+use Rattle.rules.specs.Refusals.{Ground, first}
+use Rattle.rules.specs.declared.answer.Refusal.{Refusal}
 
 -- both parts of a conjunction hold
 pub both : (a b : Bool) → (a && b) ≡ true → (a ≡ true) × (b ≡ true)
@@ -44,16 +45,16 @@ pub pick : {A : Type 0} (P : A → Type 0) (b : Bool) {x y : A} → P x → P y 
 pick P b p q = pick-by P b (λ e. p) (λ e. q)
 
 -- no refusal of a list applies
-abbrev pub None : List Refusal → Type 0
+abbrev pub None : List Ground → Type 0
 None [] = Unit {0}
-None (r ∷ rs) = (r.applies ≡ false) × None rs
+None (g ∷ gs) = (g.applies ≡ false) × None gs
 
 -- what holds of each refusal, and of what is accepted where none applies, holds of the first that applies
-pub first_by : {A : Type 0} (P : A → Type 0) (rs : List Refusal) (refuse : ℕ → A) (accept : A)
-    → ((n : ℕ) → P (refuse n)) → (None rs → P accept) → P (first rs refuse accept)
+pub first_by : {A : Type 0} (P : A → Type 0) (gs : List Ground) (refuse : Refusal → A) (accept : A)
+    → ((r : Refusal) → P (refuse r)) → (None gs → P accept) → P (first gs refuse accept)
 first_by P [] refuse accept p q = q tt
-first_by P (r ∷ rs) refuse accept p q =
-    pick-by P r.applies (λ e. p r.number) (λ e. first_by P rs refuse accept p (λ h. q (e, h)))
+first_by P (g ∷ gs) refuse accept p q =
+    pick-by P g.applies (λ e. p g.refusal) (λ e. first_by P gs refuse accept p (λ h. q (e, h)))
 
 -- a test holds for each number below a bound
 abbrev pub all_below : ℕ → (ℕ → Bool) → Bool

@@ -1,5 +1,5 @@
 -- "waits, nothing changes": a step of a thread that waits leaves the state as it is, and so do any number of them.
-use Rattle.std.specs.Prelude.{Bool, true, false, not, ◌&&◌, ◌||◌, ◌≡◌, refl, ℕ, zero, suc, ◌+◌, eqb, get_or}
+use Rattle.std.specs.Prelude.{Bool, true, false, not, ◌&&◌, ◌||◌, ◌≡◌, refl, ℕ, zero, suc, ◌+◌, eqb, get_or, Ok}
 use Rattle.std.proofs.Common.{⊎_elim, sym, ap, ◌∙◌, add-zero, add-suc, suc-add, eqb-true}
 use Rattle.std.proofs.lemmas.Bool.{not-true}
 use Rattle.std.proofs.lemmas.List.{set-get_or}
@@ -78,7 +78,7 @@ waits_busy s t w = (waiting (view_of s t) w).busy
 
 -- "waits count": of n steps of a thread that waits each counts, and the state stays
 pub waits-steps : (n : ℕ) (from s : State) (t taken : ℕ) → waits (view_of s t) ≡ true → stuck (view_of s t) ≡ false
-    → steps n from s t taken ≡ record { reply = RunReply.TheVariants.Stops (taken + n) (thread_at s t).phase; state = s }
+    → steps n from s t taken ≡ record { reply = Ok (RunReply.TheVariants.Stops (taken + n) (thread_at s t).phase); state = s }
 unfolding steps
 waits-steps zero from s t taken w f = simp add-zero
 waits-steps (suc n) from s t taken w f =

@@ -5,7 +5,7 @@ use Rattle.std.proofs.lemmas.List.{length-replicate}
 use Rattle.keys.specs.Keys.{size}
 use Rattle.keys.proofs.Laws.{with-lt, without-lt, union-lt, below-lt, from-lt}
 use Rattle.states.specs.Tests.{pick}
-use Rattle.states.specs.Lists.{each_set, each_replicate, each-put, length-put}
+use Rattle.states.specs.Lists.{Stored, each_set, each_replicate, each-put, length-put}
 use Rattle.states.specs.Phase.{Each, end, ◌then◌, by_phase}
 use Rattle.states.specs.Calls.{begin_state, step_state, run_state}
 use Rattle.rules.specs.State.{none, unmade, new_node, fresh_thread, fresh, zero_place, place_at}
@@ -19,7 +19,6 @@ use Rattle.rules.specs.declared.state.Place.{Place}
 use Rattle.rules.specs.declared.state.Thread.{Thread}
 use Rattle.rules.specs.declared.state.State.{State}
 use Rattle.rules.specs.declared.row.View.{View}
-use Rattle.rules.specs.declared.row.Store.{Store}
 use Rattle.rules.specs.declared.row.Plan.{Plan}
 
 -- the keys of a place are a set of the keys 0 to 63; a route has none
@@ -44,12 +43,12 @@ record Reads (v : View) : Type 0 where
 
 -- the places that a plan stores
 record Writes (p : Plan) : Type 0 where
-  first : HasSet p.first.place
-  second : HasSet p.second.place
-  third : HasSet p.third.place
+  first : Stored HasSet p.first
+  second : Stored HasSet p.second
+  third : Stored HasSet p.third
 
 -- from its three places
-sets : {p : Plan} → HasSet p.first.place → HasSet p.second.place → HasSet p.third.place → Writes p
+sets : {p : Plan} → Stored HasSet p.first → Stored HasSet p.second → Stored HasSet p.third → Writes p
 sets a b c = record { first = a; second = b; third = c }
 
 -- the empty set
@@ -72,7 +71,7 @@ after-set o ks k l =
 -- a node takes the place of another under the route q, or as root
 hangs_writes : (v : View) (t : Thread) (new x y : ℕ) (q : Place) → HasSet q → Writes (hangs v t new x y q)
 unfolding hangs
-hangs_writes v t new x y q h = sets (pick (λ (a : Store). HasSet a.place) (eqb y none) empty (takes_set x new q h)) empty empty
+hangs_writes v t new x y q h = sets (pick (Stored HasSet) (eqb y none) tt (takes_set x new q h)) tt tt
 
 -- the commit
 row5_writes : (v : View) → Reads v → Writes (row5 v)
@@ -80,9 +79,9 @@ unfolding row5 decides commits
 row5_writes v f =
     let k = after-set v.thread.operation (keys_of v.base) v.thread.key f.base in
     pick Writes v.base.valid
-    (pick Writes (above_max v) (pick Writes (ltb (size (keys_then v)) 2) (sets k empty empty) (sets k empty empty))
-    (pick Writes (below_min v) (pick Writes (eqb v.thread.prev none) (sets k empty empty) (sets k empty empty)) (sets k empty empty)))
-    (sets f.base empty empty)
+    (pick Writes (above_max v) (pick Writes (ltb (size (keys_then v)) 2) (sets k tt tt) (sets k tt tt))
+    (pick Writes (below_min v) (pick Writes (eqb v.thread.prev none) (sets k tt tt) (sets k tt tt)) (sets k tt tt)))
+    (sets f.base tt tt)
 
 -- the row at a phase stores sets where it reads sets
 abbrev Stores : ℕ → (View → Plan) → Type 0
@@ -94,38 +93,38 @@ unfolding row12 no_join join
 row12_writes v f =
     let n = f.neighbour in
     pick Writes (not v.neighbour.valid || ltb 127 v.made)
-    (sets n (pick HasSet (eqb v.thread.base v.thread.neighbour) n f.base) empty) (sets (union-lt _ _ f.base n) empty empty)
+    (sets n (pick HasSet (eqb v.thread.base v.thread.neighbour) n f.base) tt) (sets (union-lt _ _ f.base n) tt tt)
 
 -- all rows, in their order
 stores : Each Stores 0 rows
 unfolding rows row0 row1 row2 row3 row4 row6 row7 row8 row9 row10 row11 row13 row14 row15 row16 row17 row18 row19 row20 row21 row22 row23 row24 row25 searches seeks no_split split
 stores =
-    (λ v f. sets empty empty empty)
-    then (λ v f. sets empty empty empty)
-    then (λ v f. sets empty empty empty)
-    then (λ v f. pick Writes (is_free v.base) (sets f.base empty empty) (sets empty empty empty))
-    then (λ v f. pick Writes (is_free v.base) (sets f.base empty empty) (sets empty empty empty))
+    (λ v f. sets tt tt tt)
+    then (λ v f. sets tt tt tt)
+    then (λ v f. sets tt tt tt)
+    then (λ v f. pick Writes (is_free v.base) (sets f.base tt tt) (sets tt tt tt))
+    then (λ v f. pick Writes (is_free v.base) (sets f.base tt tt) (sets tt tt tt))
     then row5_writes
-    then (λ v f. pick Writes (ltb 125 v.made) (sets f.base empty empty) (sets (below-lt _ _ f.base) (from-lt _ _ f.base) empty))
+    then (λ v f. pick Writes (ltb 125 v.made) (sets f.base tt tt) (sets (below-lt _ _ f.base) (from-lt _ _ f.base) empty))
     then (λ v f. hangs_writes v _ v.thread.made v.thread.base v.thread.prev v.prev f.prev)
-    then (λ v f. sets f.base empty empty)
-    then (λ v f. sets empty empty empty)
-    then (λ v f. sets empty empty empty)
-    then (λ v f. pick Writes (is_free v.walk) (sets f.walk empty empty) (sets f.base empty empty))
+    then (λ v f. sets f.base tt tt)
+    then (λ v f. sets tt tt tt)
+    then (λ v f. sets tt tt tt)
+    then (λ v f. pick Writes (is_free v.walk) (sets f.walk tt tt) (sets f.base tt tt))
     then row12_writes
-    then (λ v f. pick Writes (is_free v.prev) (sets f.prev empty empty) (sets empty empty empty))
+    then (λ v f. pick Writes (is_free v.prev) (sets f.prev tt tt) (sets tt tt tt))
     then (λ v f. sets f.prev f.neighbour f.base)
-    then (λ v f. sets empty empty empty)
-    then (λ v f. sets empty empty empty)
-    then (λ v f. pick Writes (is_free v.grandparent) (sets f.grandparent empty empty) (sets empty empty empty))
-    then (λ v f. pick Writes v.grandparent.valid (sets empty empty empty) (sets f.grandparent empty empty))
+    then (λ v f. sets tt tt tt)
+    then (λ v f. sets tt tt tt)
+    then (λ v f. pick Writes (is_free v.grandparent) (sets f.grandparent tt tt) (sets tt tt tt))
+    then (λ v f. pick Writes v.grandparent.valid (sets tt tt tt) (sets f.grandparent tt tt))
     then (λ v f. hangs_writes v _ _ v.thread.prev v.thread.grandparent v.grandparent f.grandparent)
-    then (λ v f. sets f.prev (pick (λ (a : Store). HasSet a.place) (eqb v.thread.grandparent none) empty f.grandparent) empty)
-    then (λ v f. sets empty empty empty)
-    then (λ v f. sets empty empty empty)
+    then (λ v f. sets f.prev (pick (Stored HasSet) (eqb v.thread.grandparent none) tt f.grandparent) tt)
+    then (λ v f. sets tt tt tt)
+    then (λ v f. sets tt tt tt)
     then (λ v f. hangs_writes v _ v.thread.made v.thread.neighbour v.thread.walk v.walk f.walk)
-    then (λ v f. sets f.neighbour empty empty)
-    then (λ v f. sets f.base empty empty)
+    then (λ v f. sets f.neighbour tt tt)
+    then (λ v f. sets f.base tt tt)
     then end
 
 -- ---- the theorems
@@ -152,7 +151,7 @@ after_whole s t w =
     let v = view_of s t in
     let p = plan_of v in
     let f : Reads v = record { prev = w.keys _; base = w.keys _; walk = w.keys _; neighbour = w.keys _; grandparent = w.keys _ } in
-    let g = by_phase stores (λ n l x h. sets empty empty empty) v.thread.phase v f in
+    let g = by_phase stores (λ n l x h. sets tt tt tt) v.thread.phase v f in
     let first = each-put HasSet p.first s.places g.first w.keys in
     record {
       places = length-put p.third _ ∙ length-put p.second _ ∙ length-put p.first s.places ∙ w.places;

@@ -66,7 +66,7 @@ module _ (file : List ℕ) where
   abbrev one : Player → Call
   one p =
       let o = several_of (length room) file p in
-      record { before = room; answered = turn o.number (length o.sheet) o.player; after = sets room 0 o.sheet }
+      record { before = room; answered = turn o.refused (length o.sheet) o.player; after = sets room 0 o.sheet }
 
   done : (p : Player) → Turned (several_of (length room) file p) room (one p).answered (one p).after
   done p = record { reply = refl; bytes = refl }

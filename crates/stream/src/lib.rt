@@ -13,14 +13,12 @@ fn put<W: Write>(to: &mut W, part: &[u8]) -> Result<()>
     ensures whole { OnOk result (Appends (W.contents to.old) (W.contents to.new) part.now) }
     ensures front { (bs : List ℕ) × StartsWith part.now bs × Appends (W.contents to.old) (W.contents to.new) bs }
 {
-    match console::write_all(&mut *to, part).failed {
-        Some(why) => Err(why),
-        None => Ok(()),
-    }
+    console::write_all(&mut *to, part)?;
+    Ok(())
 }
 
 // The file is played in one room, as many lines a call as fit, and what each call leaves there is written. The answer is whether all was written,
-// or why not; a write that fails is the last.
+// or why not; a write that fails is the last. The room is an array: fixed memory, whatever the file.
 pub fn play<W: Write>(to: &mut W, file: &[u8]) -> Result<()>
     ensures whole { OnOk result (Appends (W.contents to.old) (W.contents to.new) (sheet_of file.now)) }
     ensures front { (bs : List ℕ) × StartsWith (sheet_of file.now) bs × Appends (W.contents to.old) (W.contents to.new) bs }
@@ -28,10 +26,8 @@ pub fn play<W: Write>(to: &mut W, file: &[u8]) -> Result<()>
     let mut room = [0u8; 32768];
     let mut p = player::open();
     while p.stage != 2 {
-        let t = player::several(p, file, &mut room);
-        let n = t.length;
-        p = t.player;
-        put(&mut *to, &room[..n])?;
+        let answer = player::several(&mut p, file, &mut room);
+        put(&mut *to, &room[..answer.length])?;
     }
     Ok(())
 }

@@ -1,9 +1,9 @@
 -- Laws of reading: fields and lines by the places of their ends, and what a loop over the bytes needs.
-use Rattle.std.specs.Prelude.{Bool, true, false, cond, ◌&&◌, List, [], ◌∷◌, ◌≡◌, refl, ℕ, zero, suc, ◌+◌, ◌-◌, ◌*◌, ◌≤◌, ◌<◌, ltb, leb, eqb, length, get_or, take, drop}
+use Rattle.std.specs.Prelude.{Bool, true, false, cond, ◌&&◌, List, [], ◌∷◌, ◌≡◌, refl, ℕ, zero, suc, ◌+◌, ◌-◌, ◌*◌, ◌≤◌, ◌<◌, ltb, leb, eqb, length, get_or, take, drop, Option, Some, None}
 use Rattle.std.proofs.Math.Bool.{and-eq-true_iff}
 use Rattle.std.proofs.Common.{sym, ap, ◌∙◌, zero-le, suc-le-suc, add-one, arith, lt-ltb, le-ltb, leb-true, length-drop, drop-cons, take_all}
 use Rattle.std.proofs.Math.Dec.{leb-suc-suc}
-use Rattle.text.specs.declared.Number as Number
+use Rattle.std.proofs.lemmas.Option.{none-some, cond_some}
 use Rattle.text.specs.Text.{tab, newline, until, onto, fields, lines, digits, is_number, value_from, value, value_if, number_of, number_values, number_says}
 use Rattle.text.specs.Reading.{Digit}
 
@@ -108,31 +108,30 @@ number_digits f e =
     (leb-true (length f) 7 ((and-eq-true_iff (leb 1 (length f)) (leb (length f) 7)).0 u.0).1, u.1)
 
 -- what is known where a value was read
-pub value_if_lem : (t : Bool) (v w : ℕ) → value_if t v ≡ Number.TheVariants.Value w → (t ≡ true) × (v ≡ w)
+pub value_if_lem : (t : Bool) (v w : ℕ) → value_if t v ≡ Some w → (t ≡ true) × (v ≡ w)
 unfolding value_if
-value_if_lem true v w e = (refl, cc)
-value_if_lem false v w e = let z : ◌≡◌ {A = ℕ} 0 1 = cc in absurd (omega arith)
+value_if_lem t v w e = cond_some t v w e
 
 -- and where none was
-pub slip_if : (t : Bool) (v : ℕ) → value_if t v ≡ Number.TheVariants.Slip → t ≡ false
+pub slip_if : (t : Bool) (v : ℕ) → value_if t v ≡ None → t ≡ false
 unfolding value_if
-slip_if true v e = let z : ◌≡◌ {A = ℕ} 0 1 = cc in absurd (omega arith)
+slip_if true v e = absurd (none-some v (sym e))
 slip_if false v e = refl
 
 -- the other way round
-pub value_made : (t : Bool) (v w : ℕ) → t ≡ true → v ≡ w → Number.TheVariants.Value w ≡ value_if t v
+pub value_made : (t : Bool) (v w : ℕ) → t ≡ true → v ≡ w → Some w ≡ value_if t v
 unfolding value_if
 value_made t v w e f = rw (e, f)
 
-pub slip_made : (t : Bool) (v : ℕ) → t ≡ false → Number.TheVariants.Slip ≡ value_if t v
+pub slip_made : (t : Bool) (v : ℕ) → t ≡ false → None ≡ value_if t v
 unfolding value_if
 slip_made t v e = rw e
 
 -- with what a part says as a number, its value
-pub number_says_lem : (f : List ℕ) (r : Number.Number) → r ≡ number_of f → (r ≡ number_of f) × (number_values r ≡ number_says f)
+pub number_says_lem : (f : List ℕ) (r : Option ℕ) → r ≡ number_of f → (r ≡ number_of f) × (number_values r ≡ number_says f)
 unfolding value_if
 number_says_lem f r e = (e, ap number_values e ∙ by (is_number f) (value f))
   where
-    by : (t : Bool) (v : ℕ) → number_values (cond t (Number.TheVariants.Value v) Number.TheVariants.Slip) ≡ cond t (v ∷ []) []
+    by : (t : Bool) (v : ℕ) → number_values (cond t (Some v) None) ≡ cond t (v ∷ []) []
     by true v = refl
     by false v = refl

@@ -1,8 +1,7 @@
 -- Bytes of schedules and sheets: numbers, fields, lines.
-use Rattle.std.specs.Prelude.{Bool, true, false, cond, not, ◌&&◌, ◌||◌, List, [], ◌∷◌, ◌++◌, ◌≡◌, ℕ, zero, suc, ◌+◌, ◌-◌, ◌*◌, ◌/◌, ◌%◌, ltb, leb, eqb, length, get_or}
+use Rattle.std.specs.Prelude.{Bool, true, false, cond, not, ◌&&◌, ◌||◌, List, [], ◌∷◌, ◌++◌, ◌≡◌, ℕ, zero, suc, ◌+◌, ◌-◌, ◌*◌, ◌/◌, ◌%◌, ltb, leb, eqb, length, get_or, Option, Some, None}
 use Rattle.std.proofs.lemmas.List.Edits.{sets}
 use Rattle.keys.specs.Keys.{has}
-use Rattle.text.specs.declared.Number as Number
 
 -- "Fields are parted by one tab"
 abbrev pub tab : ℕ
@@ -60,18 +59,18 @@ value_from n (b ∷ bs) = value_from (n * 10 + (b - 48)) bs
 unfoldable pub value : List ℕ → ℕ
 value f = value_from 0 f
 
--- a value, or a slip where the test fails
-unfoldable pub value_if : Bool → ℕ → Number.Number
-value_if t v = cond t (Number.TheVariants.Value v) Number.TheVariants.Slip
+-- a value, or none where the test fails
+unfoldable pub value_if : Bool → ℕ → Option ℕ
+value_if t v = cond t (Some v) None
 
 -- what a part says as a number
-abbrev pub number_of : List ℕ → Number.Number
+abbrev pub number_of : List ℕ → Option ℕ
 number_of f = value_if (is_number f) (value f)
 
--- the value that was read; none in a slip, which is refusal 1 in a line, 2 in the first line
-abbrev pub number_values : Number.Number → List ℕ
-number_values (Number.TheVariants.Value v) = v ∷ []
-number_values Number.TheVariants.Slip = []
+-- the value that was read; none is refusal 1 in a line, 2 in the first line
+abbrev pub number_values : Option ℕ → List ℕ
+number_values (Some v) = v ∷ []
+number_values None = []
 
 -- the value of a part that is a number
 abbrev pub number_says : List ℕ → List ℕ

@@ -4,110 +4,125 @@
 ghost use Rattle.std.specs.Prelude.{[], ◌∷◌, ◌+◌, ◌*◌, ◌≤◌, ◌<◌, length};
 ghost use Rattle.keys.specs.Keys.{list_of};
 ghost use Rattle.text.specs.Text.{tab, decimal_of, tabbed, sheet_line, commas, key_text, keys_text, keys_line, Wrote, fitted};
+ghost use Rattle.writing.specs.Page.{HasRoom, Puts};
 
-// The last digits of n, at most so many.
-fn put_digits(room: &mut [u8], at: usize, most: u8, n: u32) -> usize
-    requires { at + most ≤ length room.old }
-    ensures { (Wrote room.old at (decimal_of most n) result room.new) × (result ≤ at + most) }
-{
-    if most == 0 {
-        return at;
-    }
-    if n < 10 {
-        room[at] = 48 + n as u8;
-        return at + 1;
-    }
-    let end = put_digits(&mut *room, at, most - 1, n / 10);
-    room[end] = 48 + (n % 10) as u8;
-    end + 1
+// The room of a line, and how many of its bytes are written.
+#[derive(Drop)]
+struct Page<'a> {
+    room: &'a mut [u8],
+    written: usize,
 }
 
-// A mark, and the last digits of n.
-fn put_behind(room: &mut [u8], at: usize, mark: u8, most: u8, n: u32) -> usize
-    requires { at + (1 + most) ≤ length room.old }
-    ensures { (Wrote room.old at (mark ∷ decimal_of most n) result room.new) × (result ≤ at + (1 + most)) }
-{
-    room[at] = mark;
-    put_digits(&mut *room, at + 1, most, n)
-}
-
-// Each number behind a tab.
-fn put_tabbed(room: &mut [u8], at: usize, numbers: &[u32]) -> usize
-    requires { at + 8 * length numbers.now ≤ length room.old }
-    ensures { (Wrote room.old at (tabbed numbers.now) result room.new) × (result ≤ at + 8 * length numbers.now) }
-{
-    let mut end = at;
-    let mut i = 0;
-    while i < numbers.len() {
-        end = put_behind(&mut *room, end, 9, 7, numbers[i]);
-        i += 1;
+impl Page<'_> {
+    fn put_byte(&mut self, b: u8)
+        requires { HasRoom self.old 1 }
+        ensures { Puts self.old 1 (b ∷ []) self.new }
+    {
+        self.room[self.written] = b;
+        self.written += 1;
     }
-    end
-}
 
-// The key k behind a comma, if the set has it.
-fn put_key(room: &mut [u8], at: usize, keys: u64, k: u8) -> usize
-    requires { (k < 64) × (at + 3 ≤ length room.old) }
-    ensures { (Wrote room.old at (key_text keys k) result room.new) × (result ≤ at + 3) }
-{
-    if keys::has(keys, k) {
-        return put_behind(&mut *room, at, 44, 2, k as u32);
+    // The last digits of n, at most so many.
+    #[tactic(auto, unfolding(text::specs::Text::decimal_of))]
+    fn put_digits(&mut self, most: u8, n: u32)
+        requires { HasRoom self.old most }
+        ensures { Puts self.old most (decimal_of most n) self.new }
+    {
+        if most == 0 {
+            return;
+        }
+        if n < 10 {
+            self.put_byte(b'0' + n as u8);
+            return;
+        }
+        self.put_digits(most - 1, n / 10);
+        self.put_byte(b'0' + (n % 10) as u8);
     }
-    at
-}
 
-// Each key of a set behind a comma.
-fn put_commas(room: &mut [u8], at: usize, keys: u64) -> usize
-    requires { at + 192 ≤ length room.old }
-    ensures { (Wrote room.old at (commas (list_of keys)) result room.new) × (result ≤ at + 192) }
-{
-    let mut end = at;
-    let mut k: u8 = 0;
-    while k < 64 {
-        end = put_key(&mut *room, end, keys, k);
-        k += 1;
+    // A mark, and the last digits of n.
+    fn put_behind(&mut self, mark: u8, most: u8, n: u32)
+        requires { HasRoom self.old (1 + most) }
+        ensures { Puts self.old (1 + most) (mark ∷ decimal_of most n) self.new }
+    {
+        self.put_byte(mark);
+        self.put_digits(most, n);
     }
-    end
-}
 
-// The keys of a set behind a tab, which takes the place of the first comma.
-fn put_keys(room: &mut [u8], at: usize, keys: u64) -> usize
-    requires { at + 192 ≤ length room.old }
-    ensures { (Wrote room.old at (tab ∷ keys_text (list_of keys)) result room.new) × (result ≤ at + 192) }
-{
-    let end = put_commas(&mut *room, at, keys);
-    room[at] = 9;
-    if end == at {
-        room[at + 1] = 45;
-        return at + 2;
+    // Each number behind a tab.
+    #[tactic(auto, unfolding(text::specs::Text::tabbed))]
+    fn put_tabbed(&mut self, numbers: &[u32])
+        requires { HasRoom self.old (8 * length numbers.now) }
+        ensures { Puts self.old (8 * length numbers.now) (tabbed numbers.now) self.new }
+    {
+        for n in numbers {
+            self.put_behind(b'\t', 7, *n);
+        }
     }
-    end
+
+    // The key k behind a comma, if the set has it.
+    #[tactic(auto, using(text::proofs::Writing::decimal_key), unfolding(text::specs::Text::key_text))]
+    fn put_key(&mut self, keys: u64, k: u8)
+        requires { (k < 64) × HasRoom self.old 3 }
+        ensures { Puts self.old 3 (key_text keys k) self.new }
+    {
+        if keys::has(keys, k) {
+            self.put_behind(b',', 2, k as u32);
+        }
+    }
+
+    // Each key of a set behind a comma.
+    #[tactic(auto, unfolding(keys::specs::Keys::list_of))]
+    fn put_commas(&mut self, keys: u64)
+        requires { HasRoom self.old 192 }
+        ensures { Puts self.old 192 (commas (list_of keys)) self.new }
+    {
+        for k in 0..64 {
+            self.put_key(keys, k);
+        }
+    }
+
+    // The keys of a set behind a tab, which takes the place of the first comma.
+    fn put_keys(&mut self, keys: u64)
+        requires { HasRoom self.old 192 }
+        ensures { Puts self.old 192 (tab ∷ keys_text (list_of keys)) self.new }
+    {
+        let start = self.written;
+        self.put_commas(keys);
+        self.room[start] = b'\t';
+        if self.written == start {
+            self.room[start + 1] = b'-';
+            self.written = start + 2;
+        }
+    }
 }
 
-// A sheet line at the front of the room; where its most bytes do not fit, nothing.
+// A sheet line at the front of the room; where its most bytes do not fit, nothing, and the answer is 0, as `fitted` has it.
+#[tactic(auto, unfolding(text::specs::Text::fitted))]
 pub fn put_line(room: &mut [u8], letter: u8, numbers: &[u32]) -> usize
     ensures { Wrote room.old 0 (fitted (2 + 8 * length numbers.now) (length room.old) (sheet_line letter numbers.now)) result room.new }
 {
     if room.len() < 2 + 8 * numbers.len() {
         return 0;
     }
-    room[0] = letter;
-    let end = put_tabbed(&mut *room, 1, numbers);
-    room[end] = 10;
-    end + 1
+    let mut line = Page { room, written: 0 };
+    line.put_byte(letter);
+    line.put_tabbed(numbers);
+    line.put_byte(b'\n');
+    line.written
 }
 
 // A sheet line of two numbers and the keys of a set, in the same way.
+#[tactic(auto, unfolding(text::specs::Text::fitted))]
 pub fn put_keys_line(room: &mut [u8], letter: u8, a: u32, b: u32, keys: u64) -> usize
     ensures { Wrote room.old 0 (fitted 210 (length room.old) (keys_line letter (a ∷ b ∷ []) (list_of keys))) result room.new }
 {
     if room.len() < 210 {
         return 0;
     }
-    room[0] = letter;
-    let one = put_behind(&mut *room, 1, 9, 7, a);
-    let two = put_behind(&mut *room, one, 9, 7, b);
-    let three = put_keys(&mut *room, two, keys);
-    room[three] = 10;
-    three + 1
+    let mut page = Page { room, written: 0 };
+    page.put_byte(letter);
+    page.put_tabbed(&[a, b]);
+    page.put_keys(keys);
+    page.put_byte(b'\n');
+    page.written
 }

@@ -1,12 +1,11 @@
 -- What is done stays within the buffer, and is what the reader gave; each turn does more.
-use Rattle.std.proofs.Common.{length, take, ◌-◌, ◌≤◌, ◌≡◌}
+use Rattle.std.proofs.Common.{length, take, ◌-◌, ◌≤◌}
 use Rattle.std.specs.Io.KnownBytes.{Consumes}
 use Rattle.console.proofs.read_all.Given as goal
 
 abbrev pub invariant-loop-done : goal.invariant-loop-done
 invariant-loop-done g l =
-    (length l.buf ≡ length l.fn.buf)
-    × (l.done ≤ length l.buf)
+    (l.done ≤ length l.buf)
     × Consumes (g.R.Read.remaining l.fn.from) (g.R.Read.remaining l.from) (take l.done l.buf)
 
 abbrev pub decreases-loop-done : goal.decreases-loop-done

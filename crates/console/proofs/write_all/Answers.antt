@@ -9,9 +9,9 @@ use Rattle.console.proofs.write_all.Goals as goal
 pub loop-done-preserved : goal.loop-done-preserved
 loop-done-preserved g c =
     let done = c.loop-done.done in
-    let n = c.write_some-moved.result.bytes in
+    let n = c.in-Ok.n in
     let bytes = c.args.bytes.now in (
       search rules,
       subst (Appends _ _) (ap (λ l. take done bytes ++ take n l) (take_rest bytes done) ∙ sym (take-add done n bytes))
-          (Appends-trans _ _ _ _ _ c.loop-done.invariant.1 c.write_some-moved.ensures.given),
+          (Appends-trans _ _ _ _ _ c.loop-done.invariant.1 c.in-Ok.ensures.bytes),
     )

@@ -1,16 +1,8 @@
--- `keys::below` meets its contract.
-use mathlib.Core.Path.{sym}
-use native.Mathlib.Nat.{mod-eq_of_lt, lt_of_lt_of_le}
-use lib.Pow.{pow_pos, pow_mono}
+-- `keys::below` meets its contract where k is no key: the whole set is below it.
+use Rattle.std.proofs.Common.{sym, lt_of_lt_of_le, pow_mono}
+use native.Mathlib.Nat.{mod-eq_of_lt}
 use Rattle.keys.specs.Keys.{below}
 use Rattle.keys.proofs.below.Goals as goal
-
-pub nonzero_rem-result : goal.nonzero_rem-result
-nonzero_rem-result c = rw c.place.ensures (pow_pos _)
-
-pub returns-then-k-lt64 : goal.returns-then-k-lt64
-unfolding below
-returns-then-k-lt64 c = rw c.place.ensures
 
 pub returns-else-k-lt64 : goal.returns-else-k-lt64
 unfolding below

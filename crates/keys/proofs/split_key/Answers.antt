@@ -1,57 +1,35 @@
--- The invariant of split_key's loop: the split key is the key from k on with skip keys from k on before it.
-use mathlib.Core.Bool.{true, false}
-use mathlib.Core.Path.{◌≡◌, refl, sym, ◌∙◌}
-use Prim.Native.Nat.{ℕ, zero, suc, ◌+◌, ◌-◌, ◌≤◌, ◌<◌}
-use native.Mathlib.Numerals.{add-one}
-use native.Mathlib.Omega.{arith}
-use Rattle.keys.specs.Keys.{has, rising, list_of, split_key}
-use Rattle.keys.proofs.split_key.Invariants.{key_from}
+-- `keys::split_key` meets its contract: the filtered range is the list of the keys.
+use Rattle.std.proofs.Common.{◌≡◌, refl, ◌∙◌, ap, ℕ, zero, suc, ◌+◌, ◌/◌, List, ◌∷◌, rules, add-one, get_or, Option}
+use Rattle.std.specs.Prelude.{cond}
+use borrow.Author.Tests.{tests}
+use Rattle.std.specs.List.{filter, range_with_len, slice_get}
+use Rattle.std.specs.Option.{unwrap_or, option_map}
+use Rattle.std.proofs.lemmas.Option.{unwrap_or-slice_get}
+use Rattle.std.proofs.lemmas.Iterator.{YieldsList-from_range}
+use Rattle.std.proofs.lemmas.Iterator.Adapters.{option_map_id}
+use Rattle.std.proofs.lemmas.Iterator.Consumers.{nth_from_yields_List, YieldsList-from_filter}
+use Rattle.keys.specs.Keys.{has, rising, list_of, size, split_key}
 use Rattle.keys.proofs.split_key.Goals as goal
-use Rattle.keys.proofs.split_key.Goals.{then-has+else-skip-eq0, else-has}
 
--- one number fewer to look at
-fewer : (k : ℕ) → k < 64 → 64 - k ≡ suc (64 - (k + 1))
-fewer k l = omega arith
+-- the keys among n numbers are what a filter leaves of them
+filtered : (m i n : ℕ) → filter (has m) (range_with_len i n) ≡ rising m i n
+unfolding rising
+filtered m i zero = refl
+filtered m i (suc n) =
+    let rest : filter (has m) (range_with_len (i + 1) n) ≡ rising m (suc i) n = rw (add-one i) (filtered m (suc i) n) in
+    ap (λ (ks : List ℕ). cond (has m i) (i ∷ ks) ks) rest
 
--- no key to pass, and k is one: it is k
-here : (m k p : ℕ) → k < 64 → has m k ≡ true → p ≡ 0 → key_from m k p ≡ k
-unfolding key_from rising
-here m k p l h e = rw (fewer k l, e, h)
-
--- k is a key to pass
-passed : (m k p : ℕ) → k < 64 → has m k ≡ true → (p ≡ 0 → ⊥) → key_from m k p ≡ key_from m (k + 1) (p - 1)
-unfolding key_from rising
-passed m k zero l h e = absurd (e refl)
-passed m k (suc p) l h e = let f : suc p - 1 ≡ p = omega arith in rw (fewer k l, f, h, add-one k)
-
--- k is no key
-none : (m k p : ℕ) → k < 64 → has m k ≡ false → key_from m k p ≡ key_from m (k + 1) p
-unfolding key_from rising
-none m k p l h = rw (fewer k l, h, add-one k)
-
--- no number is left
-over : (m k p : ℕ) → 64 ≤ k → key_from m k p ≡ 0
-unfolding key_from rising
-over m k p l = let e : 64 - k ≡ 0 = omega arith in rw e
-
-pub loop-k-init : goal.loop-k-init
-unfolding split_key list_of key_from
-loop-k-init c = rw c.size-skip.ensures
-
-pub returns-then-skip-eq0 : goal.returns-then-skip-eq0
-returns-then-skip-eq0 c =
-    let h = sym c.has.ensures ∙ c.if-has.true in
-    sym (c.loop-k.invariant ∙ here _ _ _ c.loop-k-test.true h c.if-skip-eq0.true)
-
-pub loop-k-preserved : goal.loop-k-preserved
-loop-k-preserved c =
-    let inv = c.loop-k.invariant in
-    let inside = c.loop-k-test.true in
-    let was = sym c.has.ensures in
-    elim c.if-has.branch [
-      | then-has+else-skip-eq0 w ↦ inv ∙ passed _ _ _ inside (was ∙ w.if-has.true) w.if-skip-eq0.false ∙ rw (← w.skip-is)
-      | else-has w ↦ inv ∙ none _ _ _ inside (was ∙ w.if-has.false) ∙ rw (← w.skip-is)
-    ]
+-- the element at n, or 0
+element : (o : Option ℕ) (ks : List ℕ) (n : ℕ) → option_map (λ x. x) o ≡ slice_get ks n → unwrap_or o 0 ≡ get_or ks n 0
+element o ks n e = rw (← option_map_id o, e) (unwrap_or-slice_get ks n 0)
 
 pub returns : goal.returns
-returns c = sym (c.loop-k.invariant ∙ over _ _ _ c.loop-k-test.false)
+unfolding split_key list_of
+returns c =
+    let m = c.args.m in
+    let at : option_map (λ x. x) c.nth.result ≡ slice_get (filter (has m) (range_with_len 0 64)) c.from.result =
+    nth_from_yields_List c.nth.result c.nth.new.self c.from.result c.nth.ensures.ran
+    (YieldsList-from_filter _ (has m) (YieldsList-from_range 0 64 64 (cc) refl) c.filter.ensures.closure (λ x b q k. search (rules, tests))) in
+    let half : c.from.result ≡ size m / 2 = c.from.ensures ∙ ap (λ (n : ℕ). n / 2) c.size-before.ensures in
+    c.unwrap_or.ensures ∙ element c.nth.result _ c.from.result at ∙ ap (λ (ks : List ℕ). get_or ks c.from.result 0) (filtered m 0 64)
+    ∙ ap (λ (n : ℕ). get_or (list_of m) n 0) half

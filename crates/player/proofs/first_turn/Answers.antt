@@ -1,42 +1,37 @@
 -- `player::first_turn` meets its contract.
-use mathlib.Core.Path.{sym, ap, ◌∙◌}
+use mathlib.Core.Bool.{true, false}
+use mathlib.Core.Path.{◌≡◌, sym, ap, ◌∙◌}
 use native.Mathlib.Omega.{arith}
 use lib.ListN.{length}
 use Prim.Native.Nat.{◌≤◌, ◌<◌}
-use lib.Seq.{length-take-le}
-use borrow.Author.Tests.{lt-ltb, le-ltb, eq-eqb, ne_eqb}
-use Rattle.text.specs.Text.{newline}
-use Rattle.text.proofs.Reading.{until-le}
-use Rattle.sheet.specs.Sheet.{refusal}
-use Rattle.sheet.proofs.Called.{called_line}
+use borrow.Author.Tests.{lt-ltb, le-ltb}
+use Rattle.std.specs.Prelude.{is_none}
+use Rattle.std.proofs.Common.{rules}
+use Rattle.sheet.specs.Sheet.{refused_of}
 use Rattle.sheet.specs.declared.calls.Answer.{Answer}
 use Rattle.player.specs.Turns.{first_turn, turned_called}
 use Rattle.player.proofs.first_turn.Goals as goal
 
 pub returns-then-file-gt60000 : goal.returns-then-file-gt60000
-unfolding first_turn refusal
+unfolding first_turn refused_of
 returns-then-file-gt60000 c =
-    let over : 60000 < length c.args.file.now = omega arith in
-    rw (lt-ltb _ _ over) (turned_called (called_line 12 c.args.p.state _ _ c.put_line-length.ensures (omega (arith, c.requires))) c.args.p.at 2)
+    let a = c.args in
+    let over : 60000 < length a.file.now = omega arith in
+    let q = rw (le-ltb (length a.room.now) 256 c.requires) at (c.refusal_line.ensures a.p.now.state) in
+    rw (lt-ltb _ _ over) (turned_called q a.p.now.at 2)
 
-pub slice_bounds-settings_line-end : goal.slice_bounds-settings_line-end
-slice_bounds-settings_line-end c = sym (length-take-le _ _ (omega (arith, c.until-end.ensures, until-le newline c.args.file.now)))
-
-pub overflow_add-result : goal.overflow_add-result
-overflow_add-result c = record { fits = omega (arith, c.until-end.ensures, until-le newline c.args.file.now) }
-
-pub returns-then-number-eq0 : goal.returns-then-number-eq0
+pub returns-then-is_none : goal.returns-then-is_none
 unfolding first_turn
-returns-then-number-eq0 c =
-    let e = c.until-end.ensures in
-    let q = rw e at c.settings_line-a.ensures in
+returns-then-is_none c =
     let within : length c.args.file.now ≤ 60000 = omega arith in
-    rw (le-ltb _ _ within, eq-eqb _ _ (sym (ap (λ (x : Answer). x.number) q.reply) ∙ c.if-number-eq0.true), e) (turned_called q _ 1)
+    let q = rw c.line_at-line.ensures.line at c.settings_line.ensures in
+    let none : is_none c.settings_line.result.1.refused ≡ true = search rules in
+    rw (le-ltb _ _ within, ap (λ (x : Answer). is_none x.refused) (sym q.reply) ∙ none, c.line_at-line.ensures.size) (turned_called q _ 1)
 
-pub returns : goal.returns
+pub returns-else-is_none : goal.returns-else-is_none
 unfolding first_turn
-returns c =
-    let e = c.until-end.ensures in
-    let q = rw e at c.settings_line-a.ensures in
+returns-else-is_none c =
     let within : length c.args.file.now ≤ 60000 = omega arith in
-    rw (le-ltb _ _ within, ne_eqb _ _ (λ h. c.if-number-eq0.false (ap (λ (x : Answer). x.number) q.reply ∙ h))) (turned_called q _ 2)
+    let q = rw c.line_at-line.ensures.line at c.settings_line.ensures in
+    let some : is_none c.settings_line.result.1.refused ≡ false = search rules in
+    rw (le-ltb _ _ within, ap (λ (x : Answer). is_none x.refused) (sym q.reply) ∙ some) (turned_called q _ 2)

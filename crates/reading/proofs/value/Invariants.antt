@@ -1,13 +1,14 @@
--- `reading::value` meets its contract. The invariant: the digits left, behind the value so far, give the whole value, and `i` digits make less than 10 ^ i.
+-- `reading::value` meets its contract. The invariant: the digits left, behind the value so far, give the whole value, and so many digits make less than that power of 10.
 use mathlib.Core.Path.{◌≡◌}
-use Prim.Native.Nat.{◌-◌, ◌^◌, ◌≤◌, ◌<◌}
+use Prim.Native.Nat.{◌^◌, ◌<◌}
 use mathlib.Core.Bool.{true}
-use lib.ListN.{length, drop}
+use lib.ListN.{drop}
 use Rattle.text.specs.Text.{digits, value, value_from}
 use Rattle.reading.proofs.value.Given as goal
 
-abbrev pub invariant-loop-i : goal.invariant-loop-i
-invariant-loop-i l = (l.i ≤ length l.part) × (l.value < 10 ^ l.i) × (value_from l.value (drop l.i l.part) ≡ Rattle.text.specs.Text.value l.part) × (digits (drop l.i l.part) ≡ true)
-
-abbrev pub decreases-loop-i : goal.decreases-loop-i
-decreases-loop-i l = length l.part - l.i
+abbrev pub invariant-loop-b : goal.invariant-loop-b
+invariant-loop-b l = record {
+  small : l.value < 10 ^ l.b-index;
+  whole : value_from l.value (drop l.b-index l.part) ≡ Rattle.text.specs.Text.value l.part;
+  left : digits (drop l.b-index l.part) ≡ true;
+}

@@ -1,29 +1,33 @@
--- `ready::ready_splice` meets its contract.
-use mathlib.Core.Path.{◌≡◌}
-use native.Mathlib.Omega.{arith}
+-- `ready::ready_splice` meets its contract at the arms of two phases.
+use Rattle.std.proofs.Common.{◌≡◌, arith, ℕ, ◌+◌, ◌≤◌, ◌⊎◌, inl, inr, rules}
+use borrow.Author.Tests.{tests}
 use Rattle.rules.specs.Needs.{needs as row_needs}
 use Rattle.ready.proofs.ready_splice.Goals as goal
 
-pub returns-in-15 : goal.returns-in-15
-unfolding row_needs
-returns-in-15 c = simp (c.in-15.is, c.route_p.ensures)
-
-pub returns-in-16 : goal.returns-in-16
-unfolding row_needs
-returns-in-16 c = simp (c.in-16.is, c.route_p-in-16.ensures, c.route_walk.ensures)
+-- a phase of two is the one or the other
+one_of : (a p : ℕ) → a ≤ p → p ≤ a + 1 → (p ≡ a) ⊎ (p ≡ a + 1)
+one_of a p l h = grind arith
 
 pub returns-in-17 : goal.returns-in-17
 unfolding row_needs
-returns-in-17 c = simp (c.in-17.is, c.route_g.ensures)
+returns-in-17 c =
+    elim (one_of 17 c.args.v.thread.phase (omega arith) (omega arith)) [
+      | inl e ↦ rw e (search (rules, tests))
+      | inr e ↦ rw e (search (rules, tests))
+    ]
 
-pub returns-in-18 : goal.returns-in-18
+pub returns-then-is_route-2 : goal.returns-then-is_route-2
 unfolding row_needs
-returns-in-18 c = simp (c.in-18.is, c.route_g-in-18.ensures)
+returns-then-is_route-2 c =
+    elim (one_of 19 c.args.v.thread.phase (omega arith) (omega arith)) [
+      | inl e ↦ rw e (search (rules, tests))
+      | inr e ↦ rw e (search (rules, tests))
+    ]
 
-pub returns-in-19 : goal.returns-in-19
+pub returns-else-is_route-2 : goal.returns-else-is_route-2
 unfolding row_needs
-returns-in-19 c = simp (c.in-19.is, c.none_or_g.ensures, c.route_p-in-19.ensures)
-
-pub returns-in_default : goal.returns-in_default
-unfolding row_needs
-returns-in_default c = let e : c.args.v.thread.phase ≡ 20 = omega arith in simp (e, c.none_or_g-in_default.ensures, c.route_p-in_default.ensures)
+returns-else-is_route-2 c =
+    elim (one_of 19 c.args.v.thread.phase (omega arith) (omega arith)) [
+      | inl e ↦ rw e (search (rules, tests))
+      | inr e ↦ rw e (search (rules, tests))
+    ]

@@ -1,5 +1,5 @@
 -- Each call plays on, and comes nearer to the end of the play; what the calls left is what the writer took.
-use Rattle.std.proofs.Common.{◌≡◌, List}
+use Rattle.std.proofs.Common.{◌≡◌, ◌≤◌, List, length}
 use Rattle.std.specs.Io.KnownBytes.{Appends}
 use Rattle.player.specs.Turns.{opened}
 use Rattle.player.specs.Several.{several_of}
@@ -8,7 +8,8 @@ use Rattle.stream.proofs.play.Given as goal
 
 abbrev pub invariant-loop-p : goal.invariant-loop-p
 invariant-loop-p g l =
-    Playing l.file l.p
+    (256 ≤ length l.room)
+    × Playing l.file l.p
     × (cs : List Call)
     × Calls several_of l.file opened cs
     × (reached opened cs ≡ l.p)

@@ -11,29 +11,29 @@ use Rattle.machine.proofs.calls.step.Goals as goal
 pub returns-then-not-in_range : goal.returns-then-not-in_range
 unfolding step_of thread_at reply_of after
 returns-then-not-in_range c =
-    let both = step_says_lem _ c.args.t _ (simp (c.if-not-in_range.true, c.refused_step.ensures, ← c.in_range.ensures)) in
+    let both = step_says_lem _ c.args.t _ (simp (c.if-not-in_range.true, ← c.in_range.ensures)) in
     record { answer = both.0; number = both.1.0; values = both.1.1 }
 
 pub returns-then-t-gt7 : goal.returns-then-t-gt7
 unfolding step_of thread_at reply_of after
 returns-then-t-gt7 c =
-    let both = step_says_lem _ c.args.t _ (simp (lt-ltb _ _ c.if-t-gt7.true, c.if-not-in_range.false, c.refused_step-then-t-gt7.ensures, ← c.in_range.ensures)) in
+    let both = step_says_lem _ c.args.t _ (simp (lt-ltb _ _ c.if-t-gt7.true, c.if-not-in_range.false, ← c.in_range.ensures)) in
     record { answer = both.0; number = both.1.0; values = both.1.1 }
 
-pub returns-then-th-eq0 : goal.returns-then-th-eq0
+pub returns-then-thread-eq0 : goal.returns-then-thread-eq0
 unfolding step_of thread_at reply_of after
-returns-then-th-eq0 c =
-    let both = step_says_lem _ c.args.t _ (simp (eq-eqb _ _ c.if-th-eq0.true, le-ltb _ _ c.if-t-gt7.false, c.if-not-in_range.false, c.refused_step-then-th-eq0.ensures, ← c.in_range.ensures)) in
+returns-then-thread-eq0 c =
+    let both = step_says_lem _ c.args.t _ (simp (eq-eqb _ _ c.if-thread-eq0.true, le-ltb _ _ c.if-t-gt7.false, c.if-not-in_range.false, ← c.in_range.ensures)) in
     record { answer = both.0; number = both.1.0; values = both.1.1 }
 
 pub returns-then-stuck : goal.returns-then-stuck
 unfolding step_of thread_at reply_of after
 returns-then-stuck c =
-    let both = step_says_lem _ c.args.t _ (simp (ap stuck (sym c.view-v.ensures) ∙ sym c.stuck.ensures ∙ c.if-stuck.true, ne_eqb _ _ c.if-th-eq0.false, le-ltb _ _ c.if-t-gt7.false, c.if-not-in_range.false, c.refused_step-then-stuck.ensures, c.view-v.ensures, ← c.in_range.ensures)) in
+    let both = step_says_lem _ c.args.t _ (simp (ap stuck (sym c.view-v.ensures) ∙ sym c.stuck.ensures ∙ c.if-stuck.true, ne_eqb _ _ c.if-thread-eq0.false, le-ltb _ _ c.if-t-gt7.false, c.if-not-in_range.false, c.view-v.ensures, ← c.in_range.ensures)) in
     record { answer = both.0; number = both.1.0; values = both.1.1 }
 
 pub returns : goal.returns
 unfolding step_of thread_at reply_of after
 returns c =
-    let both = step_says_lem _ c.args.t _ (simp (ap stuck (sym c.view-v.ensures) ∙ sym c.stuck.ensures ∙ c.if-stuck.false, ne_eqb _ _ c.if-th-eq0.false, le-ltb _ _ c.if-t-gt7.false, c.if-not-in_range.false, c.apply.ensures, c.reply_of.ensures, c.plan_of-p.ensures (can_commit _ (sym c.stuck.ensures ∙ c.if-stuck.false)), c.view-v.ensures, ← c.in_range.ensures)) in
+    let both = step_says_lem _ c.args.t _ (simp (ap stuck (sym c.view-v.ensures) ∙ sym c.stuck.ensures ∙ c.if-stuck.false, ne_eqb _ _ c.if-thread-eq0.false, le-ltb _ _ c.if-t-gt7.false, c.if-not-in_range.false, c.apply.ensures, c.reply_of.ensures, c.plan_of-plan.ensures (can_commit _ (sym c.stuck.ensures ∙ c.if-stuck.false)), c.view-v.ensures, ← c.in_range.ensures)) in
     record { answer = both.0; number = both.1.0; values = both.1.1 }

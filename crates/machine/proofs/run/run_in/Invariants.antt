@@ -4,8 +4,8 @@ use Prim.Native.Nat.{◌≤◌, ◌<◌, ◌-◌}
 use Rattle.rules.specs.Step.{run_in, steps}
 use Rattle.machine.proofs.run.run_in.Given as goal
 
-abbrev pub invariant-loop-k : goal.invariant-loop-k
-invariant-loop-k l = (l.i ≡ l.t) × ((l.k ≤ l.n) × ((run_in l.s l.t l.n ≡ steps (l.n - l.k) l.s l.u l.t l.k) × ((l.t < 8) × (l.n ≤ 1000))))
+abbrev pub invariant-loop-taken : goal.invariant-loop-taken
+invariant-loop-taken l = (l.taken ≤ l.n) × ((run_in l.before l.t l.n ≡ steps (l.n - l.taken) l.before l.s l.t l.taken) × ((l.t < 8) × (l.n ≤ 1000)))
 
-abbrev pub decreases-loop-k : goal.decreases-loop-k
-decreases-loop-k l = l.n - l.k
+abbrev pub decreases-loop-taken : goal.decreases-loop-taken
+decreases-loop-taken l = l.n - l.taken

@@ -14,4 +14,4 @@ returns-then-not-in_range c = rw (le-ltb _ _ c.if-room-lt-LEAST_ROOM.false, ← 
 
 pub returns : goal.returns
 unfolding end_of
-returns c = rw (le-ltb _ _ c.if-room-lt-LEAST_ROOM.false, ← c.in_range.ensures, c.if-not-in_range.false, ← c.key_list-reply.ensures.answer) c.keys_line.ensures
+returns c = rw (le-ltb _ _ c.if-room-lt-LEAST_ROOM.false, ← c.in_range.ensures, c.if-not-in_range.false, ← c.end_reply.ensures) (c.reply_with.ensures _)

@@ -1,22 +1,17 @@
 -- `sheet::calls::settings_line` meets its contract.
-use mathlib.Core.Path.{sym, ◌∙◌}
 use borrow.Author.Tests.{lt-ltb, le-ltb}
 use Rattle.sheet.specs.Sheet.{first_played, first_of}
-use Rattle.forms.proofs.Form.{first_in_range}
 use Rattle.sheet.proofs.Called.{called_silent}
 use Rattle.sheet.proofs.calls.settings_line.Goals as goal
 
 pub returns-then-room-lt-LEAST_ROOM : goal.returns-then-room-lt-LEAST_ROOM
 unfolding first_of
-returns-then-room-lt-LEAST_ROOM c = rw (lt-ltb _ _ c.if-room-lt-LEAST_ROOM.true, ← c.no_state.ensures) (called_silent _ _ c.silent.ensures)
+returns-then-room-lt-LEAST_ROOM c = rw (lt-ltb _ _ c.if-room-lt-LEAST_ROOM.true, ← c.zero_state.ensures) (called_silent _ _ c.silent.ensures)
 
-pub fresh_state-requires : goal.fresh_state-requires
-fresh_state-requires c = first_in_range _ _ (sym c.first_form-form.ensures.answer ∙ c.in-Settings.is)
-
-pub returns-in-Settings : goal.returns-in-Settings
+pub returns-in-Some : goal.returns-in-Some
 unfolding first_of first_played
-returns-in-Settings c = rw (le-ltb _ _ c.if-room-lt-LEAST_ROOM.false, ← c.first_form-form.ensures.answer, c.in-Settings.is, ← c.fresh_state.ensures) c.wrote.ensures
+returns-in-Some c = rw (le-ltb _ _ c.if-room-lt-LEAST_ROOM.false, ← c.first_form.ensures.answer, c.in-Some.is, ← c.fresh_in.ensures) (c.reply_with.ensures _)
 
-pub returns-in-Slip : goal.returns-in-Slip
+pub returns-in-None : goal.returns-in-None
 unfolding first_of first_played
-returns-in-Slip c = rw (le-ltb _ _ c.if-room-lt-LEAST_ROOM.false, ← c.first_form-form.ensures.answer, c.in-Slip.is, ← c.no_state-in-Slip.ensures) c.refused.ensures
+returns-in-None c = rw (le-ltb _ _ c.if-room-lt-LEAST_ROOM.false, ← c.first_form.ensures.answer, c.in-None.is, ← c.zero_state-in-None.ensures) (c.reply_with-in-None.ensures _)

@@ -1,7 +1,0 @@
--- `beginning::fresh_state` meets its contract.
-use Rattle.rules.specs.State.{fresh}
-use Rattle.beginning.proofs.fresh_state.Goals as goal
-
-pub returns : goal.returns
-unfolding fresh
-returns c = simp (c.fresh_thread-idle.ensures, c.unmade-none.ensures, c.new_node-first.ensures)
