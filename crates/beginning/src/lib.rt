@@ -7,20 +7,14 @@ ghost use Rattle.rules.specs.Refusals.{reply_number, refusal_of};
 ghost use Rattle.rules.specs.Step.{zero_settings, fresh_order, fresh_of, begin_in, begin_order, begin_of};
 
 use rules::answer::Refusal;
-use rules::state::{Body, Lock, Place, Settings, State};
+use rules::state::{Body, Place, Settings, State};
 
 // A place that is not made.
+#[tactic(auto, unfolding(rules::specs::State::unmade, rules::specs::State::new_node))]
 fn unmade() -> Place
     ensures { result ≡ unmade }
 {
-    Place {
-        lock: Lock {
-            holder: 8,
-            statistics: 2000000,
-        },
-        valid: false,
-        body: Body::Base { keys: 0 },
-    }
+    places::invalid(places::new_node(Body::Base { keys: 0 }))
 }
 
 // The fresh state of a run with any settings, without their range test.
@@ -57,16 +51,16 @@ pub fn zero_state() -> State
     })
 }
 
-// A fresh state with settings that are in range; `low` is how far min lies below 0.
+// A fresh state with settings that are in range; `low` is how far min lies below 0. A refused call has the zero state.
 #[tactic(auto, unfolding(rules::specs::Step::fresh_of))]
-pub fn fresh(settings: Settings) -> Result<State, Refusal>
-    ensures answer { result ≡ fresh_of settings }
-    ensures number { reply_number result ≡ refusal_of (fresh_order settings) }
+pub fn fresh(settings: Settings) -> (State, Result<(), Refusal>)
+    ensures answer { record { reply = result.1; state = result.0 } ≡ fresh_of settings }
+    ensures number { reply_number result.1 ≡ refusal_of (fresh_order settings) }
 {
     if !range::settings_in_range(settings) {
-        return Err(Refusal::BadSettings);
+        return (zero_state(), Err(Refusal::BadSettings));
     }
-    Ok(fresh_in(settings))
+    (fresh_in(settings), Ok(()))
 }
 
 // Begin operation `o` (0 insert, 1 delete, 2 lookup) on key `k` in thread `t`, without the range test: begun goes up by one, and the thread gets

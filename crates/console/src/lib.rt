@@ -78,6 +78,7 @@ fn write_some<W: Write>(to: &mut W, bytes: &[u8]) -> Result<usize>
 }
 
 // Writes all of `bytes`, or as many as there are before a write that fails. One that takes nothing and names no error has failed too.
+// No `for` counts the bytes here either.
 pub fn write_all<W: Write>(to: &mut W, bytes: &[u8]) -> result::Result<(), Stopped>
     ensures bytes_in_bounds { IfErr result (λ stopped. stopped.bytes ≤ length bytes.now) }
     ensures given { MatchResult result (λ _. Appends (W.contents to.old) (W.contents to.new) bytes.now) (λ stopped. Appends (W.contents to.old) (W.contents to.new) (take stopped.bytes bytes.now)) }

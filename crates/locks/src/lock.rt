@@ -5,7 +5,7 @@ ghost use Rattle.rules.specs.Places.{taken, tried, taken3, taken4, released, zer
 use crate::lent;
 use rules::state::{Lock, Settings};
 
-// The holder of a lock that is free. No Option: the record holds a number, and any number gets an answer.
+// The holder of a lock that is free. No Option: the record holds a number, and `in_range` answers for any.
 pub const NOBODY: u8 = 8;
 
 // Statistics 0, held 2,000,000 up.

@@ -8,7 +8,7 @@ ghost use Rattle.rules.specs.Places.{is_route, keys_of, route_key, child_on, chi
 use locks::lock;
 use rules::state::{Body, Lock, Place};
 
-// A node register that names no node. No Option: the record holds a number, and any number gets an answer.
+// A node register that names no node. No Option: the record holds a number, and `in_range` answers for any.
 pub const NONE: u8 = 128;
 
 pub fn is_route(p: Place) -> bool

@@ -10,10 +10,7 @@ ghost use Rattle.player.specs.Ahead.{Ahead, Among};
 use rules::answer::Refusal;
 use rules::state::State;
 use sheet::calls;
-use sheet::calls::Answer;
-
-// The least room that is written to.
-const LEAST_ROOM: usize = 256;
+use sheet::calls::{Answer, LEAST_ROOM};
 
 // Where a play stands: the first byte not yet played, the stage (0 before the first line, 1 among the lines, any other at the end) and the state.
 // The stage is a number, as `next` and `several` answer for a play at any.

@@ -7,7 +7,7 @@ ghost use Rattle.rules.specs.Registers.{at_phase, set_prev, set_base, set_walk, 
 
 use rules::state::Thread;
 
-// A node register that names no node. No Option: the record holds a number, and any number gets an answer.
+// A node register that names no node. No Option: the record holds a number, and `in_range` answers for any.
 const NONE: u8 = 128;
 
 pub fn at_phase(p: u8, t: Thread) -> Thread

@@ -10,7 +10,7 @@ use crate::plan;
 use rules::row::{Plan, View};
 use rules::state::Place;
 
-// The answer of operation `o` on a key that is or is not present. No enum: a thread's record may hold any number as its operation.
+// The answer of operation `o` on a key that is or is not present. No enum: a thread may hold any operation number, and `thread_in_range` answers for it.
 fn answer_of(o: u8, present: bool) -> u8
     ensures { result ≡ answer_of o present }
 {

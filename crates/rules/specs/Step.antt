@@ -40,9 +40,13 @@ zero_settings = record { succ = 0; fail = 0; low = 0; max = 0 }
 abbrev pub fresh_order : Settings → List Ground
 fresh_order c = (BadSettings if not (settings_in_range c)) ∷ []
 
+-- there is no state before to be left: the fresh state of settings of four zeros
+abbrev pub refused_fresh : Refusal → Replied (Unit {0})
+refused_fresh r = record { reply = Err r; state = fresh zero_settings }
+
 -- a fresh state
-unfoldable pub fresh_of : Settings → Result State Refusal
-fresh_of c = first (fresh_order c) Err (Ok (fresh c))
+unfoldable pub fresh_of : Settings → Replied (Unit {0})
+fresh_of c = first (fresh_order c) refused_fresh (record { reply = Ok tt; state = fresh c })
 
 -- ---- begin
 

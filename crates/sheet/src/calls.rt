@@ -14,7 +14,7 @@ use rules::answer::{Refusal, RunReply};
 use rules::state::State;
 
 // The least room that is written to.
-const LEAST_ROOM: usize = 256;
+pub const LEAST_ROOM: usize = 256;
 
 // What a line call answers: the refusal, if it is one, and how many bytes it wrote.
 #[derive(Clone, Copy, PartialEq, Eq, Debug)]
@@ -68,7 +68,8 @@ fn begin_reply(s: &mut State, t: u32, o: u32, k: u32) -> Result<SheetLine, Refus
     Ok(SheetLine::Begun { thread: t })
 }
 
-// Counted steps, and `S thread taken phase` or, on ending, `D thread taken answer commit`.
+// Counted steps, and `S thread taken phase` or, on ending, `D thread taken answer commit`. A line that holds the reply as it is would be no plainer:
+// `put` would need a function more, to take it apart.
 fn steps_reply(s: &mut State, t: u32, n: u32) -> Result<SheetLine, Refusal>
     ensures { plays result s.new ≡ run_line t (run_in s.old t n).state (run_in s.old t n).reply }
 {

@@ -58,7 +58,7 @@ pub(crate) fn put(line: SheetLine, room: &mut [u8]) -> usize
     }
 }
 
-// The number of a refusal, as its line has it.
+// The number of a refusal, as its line has it; no `From`, since rules, where it would stand, has no function.
 pub(crate) fn number(refusal: Refusal) -> u32
     ensures { result ≡ number refusal }
 {

@@ -1,5 +1,5 @@
 -- "A state is in range": fresh, begin, step and counted steps keep every state in range, reachable or not.
-use Rattle.std.specs.Prelude.{true, false, ◌≡◌, refl, ℕ, ◌≤◌, ◌<◌, get_or, replicate, Result, Err, IfOk}
+use Rattle.std.specs.Prelude.{true, false, ◌≡◌, refl, ℕ, ◌≤◌, ◌<◌, get_or, replicate}
 use Rattle.std.proofs.Common.{arith}
 use Rattle.std.proofs.lemmas.Bool.{not-false}
 use Rattle.states.specs.Tests.{first_by}
@@ -15,12 +15,11 @@ use Rattle.rules.specs.State.{unmade, fresh, zero_place, zero_thread, thread_at}
 use Rattle.rules.specs.Rows.{rows, plan_of}
 use Rattle.rules.specs.Needs.{needs, idle, stuck}
 use Rattle.rules.specs.Range.{settings_in_range, register_in_range, registers_in_range, thread_in_range, in_range}
-use Rattle.rules.specs.Step.{zero_settings, fresh_order, fresh_of, begun, begin_of, view_of, after, step_of, run_of}
+use Rattle.rules.specs.Step.{Replied, zero_settings, fresh_order, refused_fresh, fresh_of, begun, begin_of, view_of, after, step_of, run_of}
 use Rattle.rules.specs.declared.state.Settings.{Settings}
 use Rattle.rules.specs.declared.state.State.{State}
 use Rattle.rules.specs.declared.row.View.{View}
 use Rattle.rules.specs.declared.row.Plan.{Plan}
-use Rattle.rules.specs.declared.answer.Refusal.{Refusal}
 
 -- the row at phase p, given what it needs, has a plan in range
 abbrev Keeps : ℕ → (View → Plan) → Type 0
@@ -78,16 +77,11 @@ fresh_ok c h =
 pub fresh_in_range : (c : Settings) → settings_in_range c ≡ true → in_range (fresh c) ≡ true
 fresh_in_range c h = in_range_lem (fresh c) (fresh_ok c h)
 
--- the zero state
-pub zero_in_range : in_range (fresh zero_settings) ≡ true
-unfolding zero_settings settings_in_range
-zero_in_range = fresh_in_range zero_settings refl
-
--- a fresh state that is asked for, whatever the settings: where it is not refused it is in range
-pub fresh_of_in_range : (c : Settings) → IfOk (fresh_of c) (λ s. in_range s ≡ true)
-unfolding fresh_of
+-- a refused fresh state too
+pub fresh_of_in_range : (c : Settings) → in_range (fresh_of c).state ≡ true
+unfolding fresh_of settings_in_range zero_settings
 fresh_of_in_range c =
-    first_by (λ (r : Result State Refusal). IfOk r (λ s. in_range s ≡ true)) (fresh_order c) Err _ (λ r. tt)
+    first_by (λ (r : Replied (Unit {0})). in_range r.state ≡ true) (fresh_order c) refused_fresh _ (λ r. fresh_in_range zero_settings refl)
     (λ h. fresh_in_range c (not-false _ h.0))
 
 -- begin

@@ -22,7 +22,8 @@ impl Page<'_> {
         self.written += 1;
     }
 
-    // The last digits of n, at most so many.
+    // The last digits of n, at most so many. Not by `write!`, which answers a Result that would have to be shown never to fail; and a page is no Cursor,
+    // whose writes answer one too.
     #[tactic(auto, unfolding(text::specs::Text::decimal_of))]
     fn put_digits(&mut self, most: u8, n: u32)
         requires { HasRoom self.old most }
