@@ -11,7 +11,7 @@ use rules::answer::{Refusal, RunReply};
 use rules::row::View;
 use rules::state::State;
 
-// The step waits: its lock at phase 4, 13 or 17 is held.
+// The step waits: its lock at phase 4, 13 or 17 is held. Phases are numbers here too, as `plan_of` decides over them.
 fn waits(v: View) -> bool
     ensures { result ≡ waits v }
 {

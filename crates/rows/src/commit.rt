@@ -45,7 +45,8 @@ fn few_then(v: View) -> bool
     keys::size(keys_then(v)) < 2
 }
 
-// The commit: B becomes `b`, the thread goes to phase `p`.
+// The commit: B becomes `b`, the thread goes to phase `p`. Each contract here asks for committed < begun, and no type has it: `plan_of` answers any
+// caller, and promises its plan where it holds.
 fn commits(v: View, p: u8, b: Place) -> Plan
     requires { v.committed < v.begun }
     ensures { result ≡ commits v p b }

@@ -33,7 +33,7 @@ fn silent(refusal: Refusal) -> Answer
     }
 }
 
-// A reply and its line.
+// A reply and its line. 256 bytes are asked of the room here and in `put`: a type for such a room would be made anew from what is left of it.
 fn reply_with(reply: Result<SheetLine, Refusal>, room: &mut [u8]) -> Answer
     requires { 256 ≤ length room.old }
     ensures { (s : State) → Called (plays reply s) room.old result s room.new }
