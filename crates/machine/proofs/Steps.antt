@@ -1,15 +1,15 @@
 -- Counted steps, one at a time: what a loop that has taken k of n steps knows.
-use mathlib.Core.Path.{◌≡◌, ap, ◌∙◌}
+use mathlib.Core.Path.{◌≡◌, refl, sym, ap, subst, ◌∙◌}
 use mathlib.Core.Bool.{true, false}
 use Prim.Native.Nat.{ℕ, suc, ◌+◌, ◌-◌, ◌≤◌, ◌<◌}
 use native.Mathlib.Numerals.{add-one}
 use native.Mathlib.Omega.{arith}
 use Rattle.states.specs.Calls.{steps_tests}
-use Rattle.rules.specs.State.{thread_at}
+use Rattle.rules.specs.State.{zero_place, thread_at}
 use Rattle.rules.specs.Needs.{stuck}
-use Rattle.rules.specs.Rows.{plan_of}
-use Rattle.rules.specs.Step.{view_of, apply, ends, after, refused_by, steps}
-use Rattle.machine.specs.Commits.{can_commit, Planned}
+use Rattle.rules.specs.Step.{view_before, next_of, view_of, apply, ends, after, refused_by, steps}
+use Rattle.machine.specs.Commits.{Planned}
+use Rattle.machine.specs.InPlace.{planned}
 use Rattle.rules.specs.declared.state.State.{State}
 use Rattle.rules.specs.declared.row.View.{View}
 use Rattle.rules.specs.declared.row.Plan.{Plan}
@@ -39,5 +39,6 @@ module _ (from s : State) (t n k : ℕ) where
 
 -- the plan that `plan_of` gives of a step that is not stuck, carried out
 pub carried_out : (s : State) (t : ℕ) (v : View) (p : Plan) → v ≡ view_of s t → Planned v p → stuck v ≡ false → apply s t p ≡ after s t
-unfolding after
-carried_out s t v p e h k = ap (apply s t) (h (can_commit v k) ∙ ap plan_of e)
+unfolding view_before view_of
+carried_out s t v p e h k =
+    planned s t (next_of (view_before s t)) zero_place refl refl p (subst (λ (w : View). Planned w p) e h) (ap stuck (sym e) ∙ k)

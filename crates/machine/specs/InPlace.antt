@@ -1,4 +1,4 @@
--- A step in place, on the definitions alone: the places are loaded and stored one by one, and where nothing is stored the old place is put back.
+-- A step in place: the places are loaded and stored one by one, and where nothing is stored the old place is put back.
 use Rattle.std.specs.Prelude.{◌≡◌, refl, false, List, ℕ, get_or, set, Option, Some, None}
 use Rattle.std.proofs.Common.{◌∙◌}
 use Rattle.std.proofs.Math.Path.{ap}

@@ -4,6 +4,7 @@ use borrow.Author.Tests.{eq-eqb, le-ltb, lt-ltb, ne_eqb}
 use Rattle.rules.specs.Needs.{stuck}
 use Rattle.states.specs.Answered.{step_says_lem}
 use Rattle.machine.specs.Commits.{can_commit}
+use Rattle.machine.proofs.Steps.{carried_out}
 use Rattle.rules.specs.Step.{step_of, reply_of, after}
 use Rattle.rules.specs.State.{thread_at}
 use Rattle.machine.proofs.calls.step.Goals as goal
@@ -33,7 +34,9 @@ returns-then-stuck c =
     record { answer = both.0; number = both.1.0; values = both.1.1 }
 
 pub returns : goal.returns
-unfolding step_of thread_at reply_of after
+unfolding step_of thread_at reply_of
 returns c =
-    let both = step_says_lem _ c.args.t _ (simp (ap stuck (sym c.view-v.ensures) ∙ sym c.stuck.ensures ∙ c.if-stuck.false, ne_eqb _ _ c.if-thread-eq0.false, le-ltb _ _ c.if-t-gt7.false, c.if-not-in_range.false, c.apply.ensures, c.reply_of.ensures, c.plan_of-plan.ensures (can_commit _ (sym c.stuck.ensures ∙ c.if-stuck.false)), c.view-v.ensures, ← c.in_range.ensures)) in
+    let e = sym c.stuck.ensures ∙ c.if-stuck.false in
+    let f = c.apply.ensures ∙ carried_out c.args.s.now c.args.t _ _ c.view-v.ensures c.plan_of-plan.ensures e in
+    let both = step_says_lem _ c.args.t _ (simp (ap stuck (sym c.view-v.ensures) ∙ e, ne_eqb _ _ c.if-thread-eq0.false, le-ltb _ _ c.if-t-gt7.false, c.if-not-in_range.false, f, c.reply_of.ensures, c.plan_of-plan.ensures (can_commit _ e), c.view-v.ensures, ← c.in_range.ensures)) in
     record { answer = both.0; number = both.1.0; values = both.1.1 }
