@@ -1,7 +1,8 @@
 -- "Schedule and key sheet": the forms of the schedule's lines.
 use Rattle.std.specs.Prelude.{Bool, true, cond, not, ◌&&◌, ◌||◌, List, [], ◌∷◌, ℕ, eqb, length, get_or, drop, Option, Some, None}
 use Rattle.rules.specs.Range.{settings_in_range}
-use Rattle.rules.specs.Refusals.{Ground, ◌if◌}
+use Rattle.rules.specs.Refusals.{number, Ground, ◌if◌}
+use Rattle.rules.specs.declared.answer.Refusal.{Refusal}
 use Rattle.rules.specs.declared.answer.Refusal.TheVariants.{NotOfTheForms, BadSettings}
 use Rattle.rules.specs.declared.state.Settings.{Settings}
 use Rattle.text.specs.Text.{minus, fields, is_letter, is_number, value, value_if}
@@ -86,9 +87,13 @@ line_form l =
 -- ---- document 01's number and values for each case of the two answers, and what the line says that they are
 
 -- "2 the first line is .. not a settings line in range"
+abbrev pub first_slip : Refusal
+first_slip = BadSettings
+
+-- its number; 0 for a settings line in range
 abbrev pub first_number : Option Settings → ℕ
 first_number (Some c) = 0
-first_number None = 2
+first_number None = number first_slip
 
 -- succ, fail, how far min lies below 0, max
 abbrev pub first_values : Option Settings → List ℕ
@@ -97,7 +102,7 @@ first_values None = []
 
 -- "2 the first line is .. not a settings line in range": not one, or not in range
 abbrev pub first_order : List ℕ → List Ground
-first_order l = (BadSettings if not (is_first (fields l))) ∷ (BadSettings if not (settings_in_range (settings_of (fields l)))) ∷ []
+first_order l = (first_slip if not (is_first (fields l))) ∷ (first_slip if not (settings_in_range (settings_of (fields l)))) ∷ []
 
 -- the values of an accepted first line: `R succ fail min max`
 abbrev pub first_says : List ℕ → List ℕ
@@ -105,10 +110,14 @@ first_says l =
     value (field (fields l) 1) ∷ value (field (fields l) 2) ∷ low_of (field (fields l) 3) ∷ value (field (fields l) 4) ∷ []
 
 -- "1 a line .. is not of the forms"
+abbrev pub line_slip : Refusal
+line_slip = NotOfTheForms
+
+-- its number; 0 for a line of the forms
 abbrev pub line_number : Option Line.Line → ℕ
 line_number (Some (Line.TheVariants.Begin t o k)) = 0
 line_number (Some (Line.TheVariants.Steps t n)) = 0
-line_number None = 1
+line_number None = number line_slip
 
 -- "B thread op key", "S thread n"
 abbrev pub line_values : Option Line.Line → List ℕ
@@ -118,7 +127,7 @@ line_values None = []
 
 -- "1 a line .. is not of the forms"
 abbrev pub line_order : List ℕ → List Ground
-line_order l = (NotOfTheForms if not (is_begin (fields l) || is_steps (fields l))) ∷ []
+line_order l = (line_slip if not (is_begin (fields l) || is_steps (fields l))) ∷ []
 
 -- the values of an accepted line: `B thread op key`, else `S thread n`
 abbrev pub line_says : List ℕ → List ℕ

@@ -8,7 +8,7 @@ ghost use Rattle.player.specs.Several.{last, turns_of, several_of};
 ghost use Rattle.player.specs.Ahead.{Ahead, Among};
 
 use rules::answer::Refusal;
-use rules::state::State;
+use rules::state::{Settings, State};
 use sheet::calls;
 use sheet::calls::{Answer, LEAST_ROOM};
 
@@ -21,15 +21,21 @@ pub struct Player {
     pub state: State,
 }
 
-// A play that has not begun.
-#[tactic(auto, unfolding(crate::specs::Turns::opened))]
+// A play that has not begun. Its state is that of a fresh call too, and no other has been made.
+#[tactic(auto, unfolding(crate::specs::Turns::opened, rules::specs::Step::fresh_of, rules::specs::Step::zero_settings, rules::specs::Range::settings_in_range))]
 pub fn open() -> Player
     ensures { result ≡ opened }
 {
     Player {
         at: 0,
         stage: 0,
-        state: beginning::zero_state(),
+        state: beginning::fresh(Settings {
+            succ: 0,
+            fail: 0,
+            low: 0,
+            max: 0,
+        })
+        .0,
     }
 }
 

@@ -9,11 +9,11 @@ use Rattle.rules.specs.Answers.{run_values, list_values}
 use Rattle.rules.specs.declared.state.State.{State}
 use Rattle.rules.specs.declared.state.Settings.{Settings}
 use Rattle.rules.specs.declared.answer.Refusal.{Refusal}
-use Rattle.rules.specs.declared.answer.Refusal.TheVariants.{NotOfTheForms, BadSettings, OutOfRange, LittleRoom, TooLong}
+use Rattle.rules.specs.declared.answer.Refusal.TheVariants.{BadSettings, OutOfRange, LittleRoom, TooLong}
 use Rattle.rules.specs.declared.answer.RunReply.{RunReply}
 use Rattle.rules.specs.declared.answer.RunReply.TheVariants.{Stops, Ends}
 use Rattle.text.specs.Text.{lines, sheet_line, keys_line}
-use Rattle.forms.specs.Form.{first_form, line_form}
+use Rattle.forms.specs.Form.{first_form, first_slip, first_number, line_form, line_slip, line_number}
 use Rattle.forms.specs.declared.Line.{Line}
 use Rattle.forms.specs.declared.Line.TheVariants.{Begin, Steps}
 
@@ -34,6 +34,10 @@ silent s r = record { refused = Some r; state = s; sheet = [] }
 -- a refusal with its line
 abbrev pub refused : State → Refusal → Played
 refused s r = record { refused = Some r; state = s; sheet = refusal (number r) }
+
+-- a slip of form, with a line that has the number of the form's answer
+abbrev pub slipped : State → Refusal → ℕ → Played
+slipped s r n = record { refused = Some r; state = s; sheet = refusal n }
 
 -- an accepted line
 abbrev pub wrote : State → List ℕ → Played
@@ -66,7 +70,7 @@ run_line t s r = record { refused = refused_in r; state = s; sheet = run_sheet t
 unfoldable pub play_form : State → Option Line → Played
 play_form s (Some (Begin t o k)) = begin_line t (begin_of s t o k).state (begin_of s t o k).reply
 play_form s (Some (Steps t n)) = run_line t (run_of s t n).state (run_of s t n).reply
-play_form s None = refused s NotOfTheForms
+play_form s None = slipped s line_slip (line_number None)
 
 -- a refusal alone, with its line
 unfoldable pub refused_of : ℕ → State → Refusal → Played
@@ -81,7 +85,7 @@ line_of room s l =
 unfoldable pub play_in : State → Option Line → Played
 play_in s (Some (Begin t o k)) = begin_line t (begin_in s t o k).state (begin_in s t o k).reply
 play_in s (Some (Steps t n)) = run_line t (run_in s t n).state (run_in s t n).reply
-play_in s None = refused s NotOfTheForms
+play_in s None = slipped s line_slip (line_number None)
 
 -- a line call without the range test: "9, .. 1, then 3, 4, 10, 5, 6, 11, 8 as they apply"
 unfoldable pub line_in : ℕ → State → List ℕ → Played
@@ -107,7 +111,7 @@ end_of room s = cond (narrow room) (silent s LittleRoom) (cond (not (in_range s)
 -- what a settings line does: a fresh state and the sheet line `R`, or `X 2`
 unfoldable pub first_played : Option Settings → Played
 first_played (Some c) = wrote (fresh c) (sheet_line 82 [])
-first_played None = refused (fresh zero_settings) BadSettings
+first_played None = slipped (fresh zero_settings) first_slip (first_number None)
 
 -- "settings line 9, 2"
 unfoldable pub first_of : ℕ → List ℕ → Played
@@ -123,7 +127,7 @@ play_lines s (l ∷ ls) = (play_form s (line_form l)).sheet ++ play_lines (play_
 -- "If refused, the sheet is `X 2` alone"
 unfoldable pub play_first : Option Settings → List (List ℕ) → List ℕ
 play_first (Some c) ls = sheet_line 82 [] ++ play_lines (fresh c) ls
-play_first None ls = refusal (number BadSettings)
+play_first None ls = refusal (first_number None)
 
 -- 2 also where "the first line is missing"
 unfoldable pub play_all : List (List ℕ) → List ℕ

@@ -130,8 +130,9 @@ pub fn settings_line(line: &[u8], room: &mut [u8]) -> (State, Answer)
         return (beginning::zero_state(), silent(Refusal::LittleRoom));
     }
     match forms::first_form(line) {
+        // A form's settings are in range, so `fresh` refuses none.
         Some(settings) => (
-            beginning::fresh_in(settings),
+            beginning::fresh(settings).0,
             reply_with(Ok(SheetLine::Settings), room),
         ),
         None => (
