@@ -5,24 +5,44 @@ ghost use Rattle.std.specs.Prelude.{◌≡◌, [], true, ◌≤◌, length, get_
 ghost use Rattle.text.specs.Text.{until, fields, is_letter, digits, value, is_number, number_of, number_values, number_says};
 
 // The index of the first b, or the length where there is none.
+#[tactic(auto, using(crate::proofs::Steps::until_next, crate::proofs::Steps::until_end))]
 pub fn until(text: &[u8], b: u8) -> usize
     ensures { result ≡ until b text.now }
 {
-    text.iter().position(|x| *x == b).unwrap_or(text.len())
+    for i in 0..text.len() {
+        if text[i] == b {
+            return i;
+        }
+    }
+    text.len()
 }
 
 // How many fields a line has.
 pub fn field_count(text: &[u8]) -> usize
     ensures { result ≡ length (fields text.now) }
 {
-    text.split(|b| *b == b'\t').count()
+    let mut count: usize = 1;
+    for b in text {
+        if *b == b'\t' {
+            count += 1;
+        }
+    }
+    count
 }
 
 // Field i of a line: empty where there is none.
 pub fn field(text: &[u8], i: usize) -> &[u8]
     ensures { result.now ≡ get_or (fields text.now) i [] }
 {
-    text.split(|b| *b == b'\t').nth(i).unwrap_or(&[])
+    let mut rest = text;
+    for _ in 0..i {
+        let end = until(rest, b'\t');
+        if end == rest.len() {
+            return &[];
+        }
+        rest = &rest[end + 1..];
+    }
+    &rest[..until(rest, b'\t')]
 }
 
 // Whether a part is the letter b alone.

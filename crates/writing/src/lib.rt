@@ -6,6 +6,25 @@ ghost use Rattle.keys.specs.Keys.{list_of};
 ghost use Rattle.text.specs.Text.{tab, decimal_of, tabbed, sheet_line, commas, key_text, keys_text, keys_line, Wrote, fitted};
 ghost use Rattle.writing.specs.Page.{HasRoom, Puts};
 
+// The last digits of n, at most so many, from a byte of the room on; answers the byte behind them. Not by `write!`, which answers a Result that would
+// have to be shown never to fail. The room and the byte are handed on by themselves: through a page, each digit would wait for the count in memory.
+fn put_digits(room: &mut [u8], at: usize, most: u8, n: u32) -> usize
+    requires { at + most ≤ length room.old }
+    ensures wrote { Wrote room.old at (decimal_of most n) result room.new }
+    ensures fits { result ≤ at + most }
+{
+    if most == 0 {
+        return at;
+    }
+    if n < 10 {
+        room[at] = b'0' + n as u8;
+        return at + 1;
+    }
+    let end = put_digits(&mut *room, at, most - 1, n / 10);
+    room[end] = b'0' + (n % 10) as u8;
+    end + 1
+}
+
 // The room of a line, and how many of its bytes are written.
 #[derive(Drop)]
 struct Page<'a> {
@@ -22,22 +41,12 @@ impl Page<'_> {
         self.written += 1;
     }
 
-    // The last digits of n, at most so many. Not by `write!`, which answers a Result that would have to be shown never to fail; and a page is no Cursor,
-    // whose writes answer one too.
-    #[tactic(auto, unfolding(text::specs::Text::decimal_of))]
+    // The last digits of n, at most so many.
     fn put_digits(&mut self, most: u8, n: u32)
         requires { HasRoom self.old most }
         ensures { Puts self.old most (decimal_of most n) self.new }
     {
-        if most == 0 {
-            return;
-        }
-        if n < 10 {
-            self.put_byte(b'0' + n as u8);
-            return;
-        }
-        self.put_digits(most - 1, n / 10);
-        self.put_byte(b'0' + (n % 10) as u8);
+        self.written = put_digits(&mut *self.room, self.written, most, n);
     }
 
     // A mark, and the last digits of n.

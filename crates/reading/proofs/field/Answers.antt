@@ -1,13 +1,37 @@
 -- `reading::field` meets its contract.
-use Rattle.std.proofs.Common.{[], eqb, rules, tests, ap, ◌∙◌}
-use Rattle.std.proofs.lemmas.Iterator.Consumers.{nth_from_yields_List}
-use Rattle.std.proofs.lemmas.Iterator.Splits.{YieldsList-from_slice_split}
-use Rattle.std.proofs.lemmas.Option.{unwrap_or-slice_get}
-use Rattle.text.specs.Text.{tab, fields}
-use Rattle.reading.proofs.Std.{fields_split, read_or}
+use mathlib.Core.Path.{sym, ◌∙◌}
+use Rattle.std.proofs.Common.{rules, arith, ◌≡◌, ◌-◌, ◌+◌}
+use lib.Seq.{length-take-le}
+use Rattle.text.specs.Text.{tab}
+use Rattle.text.proofs.Reading.{until-le, field-first, field_later, field-none, rest_part}
 use Rattle.reading.proofs.field.Goals as goal
+
+pub returns-then-end-rest : goal.returns-then-end-rest
+returns-then-end-rest c =
+    sym (c.loop.invariant.1 ∙ field-none _ _ (omega (arith, c.loop-test.true)) (omega (arith, c.until-end.ensures, c.if-end-rest.true)))
+
+pub overflow_add-rest : goal.overflow_add-rest
+overflow_add-rest c = omega (arith, c.until-end.ensures, until-le tab c.loop.rest.now, c.if-end-rest.false)
+
+pub slice_bounds-rest-count : goal.slice_bounds-rest-count
+slice_bounds-rest-count c = omega (arith, c.until-end.ensures, until-le tab c.loop.rest.now, c.if-end-rest.false)
+
+pub slice_bounds-rest-start : goal.slice_bounds-rest-start
+slice_bounds-rest-start c = omega (arith, c.until-end.ensures, until-le tab c.loop.rest.now, c.if-end-rest.false)
+
+pub loop-preserved : goal.loop-preserved
+loop-preserved c =
+    let e : c.args.i - c.loop.counter - 1 ≡ c.args.i - (c.loop.counter + 1) = omega arith in (
+      search rules,
+      c.loop.invariant.1
+          ∙ simp (rest_part, c.until-end.ensures)
+          (rw e at (field_later c.loop.rest.now (c.args.i - c.loop.counter) (omega (arith, c.loop-test.true)) (omega (arith, c.until-end.ensures, until-le tab c.loop.rest.now, c.if-end-rest.false)))),
+    )
+
+pub slice_bounds-result-end-2 : goal.slice_bounds-result-end-2
+slice_bounds-result-end-2 c = sym (length-take-le _ _ (omega (arith, c.until.ensures, until-le tab c.loop.rest.now)))
 
 pub returns : goal.returns
 returns c =
-    let e = nth_from_yields_List c.nth.result _ c.args.i c.nth.ensures.ran (YieldsList-from_slice_split _ (λ b. eqb b tab) c.args.text.now c.split.ensures.rest c.split.ensures.done c.split.ensures.closure (λ x b q k. search (rules, tests))) in
-    ap (λ x. x.now) c.unwrap_or.ensures ∙ read_or c.nth.result _ ∙ rw (e, ← fields_split c.args.text.now) (unwrap_or-slice_get (fields c.args.text.now) c.args.i [])
+    let e : c.args.i - c.loop.counter ≡ 0 = omega (arith, c.loop-test.false) in
+    rw (c.until.ensures, ← field-first) (sym (rw e at c.loop.invariant.1))

@@ -1,5 +1,5 @@
--- `writing::Page::put_digits` meets its contract.
-use Rattle.writing.proofs.Page.+put_digits.Given as goal
+-- `writing::put_digits` meets its contract.
+use Rattle.writing.proofs.+put_digits.Given as goal
 
 -- how many digits are left
 abbrev pub decreases-put_digits : goal.decreases-put_digits
